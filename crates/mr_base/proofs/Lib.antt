@@ -1,0 +1,3 @@
+pub mod Counting
+pub mod Moments
+pub mod Pending
