@@ -1,0 +1,5 @@
+pub mod Calls
+mod Files
+mod Fills
+mod Leads
+mod Stories
