@@ -1,0 +1,13 @@
+pub mod ByteNumbers
+pub mod CommitFields
+pub mod CommitLaws
+pub mod CommitLength
+pub mod Cut
+pub mod Events
+pub mod LawfulEvents
+pub mod LawfulSteps
+pub mod LogCommits
+pub mod Replied
+pub mod TraceExt
+pub mod ValidStatements
+pub mod WorkedRows

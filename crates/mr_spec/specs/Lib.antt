@@ -1,0 +1,15 @@
+pub mod Bytes
+pub mod Clocks
+pub mod CommitForm
+pub mod Cutting
+pub mod Database
+pub mod Grammar
+pub mod Lawful
+pub mod LawfulWorld
+pub mod LogCommits
+pub mod Replied
+pub mod ReplyText
+pub mod ScriptRun
+pub mod Tokens
+pub mod Valid
+pub mod World
