@@ -1,0 +1,4 @@
+pub mod Munch
+pub mod TokensOf
+pub mod CommitLemmas
+pub mod PlainLaws
