@@ -1,0 +1,13 @@
+pub mod Lists
+pub mod Steps
+pub mod Numbers
+pub mod Munch
+pub mod Quotes
+pub mod Completed
+pub mod WordFirst
+pub mod DigitsFirst
+pub mod First
+pub mod Reading
+pub mod Blanks
+pub mod Feeding
+pub mod Alike

@@ -1,0 +1,10 @@
+pub mod Bytes
+pub mod Blank
+pub mod Quoted
+pub mod Tokens
+pub mod Fronts
+pub mod Reading
+pub mod Cutting
+pub mod Resting
+pub mod Standing
+pub mod Pieces
