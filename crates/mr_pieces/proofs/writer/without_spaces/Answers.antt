@@ -1,0 +1,13 @@
+use Rattle.std.proofs.Common.{arith, sym, ◌∙◌, ap, ◌-◌, length, take, ℕ}
+use Rattle.std.proofs.lemmas.List.Sums.{suffix_len-le-length}
+use Rattle.mr_lanes.specs.Kernels.{is_space}
+use Rattle.mr_pieces.proofs.Cutting.{trimmed_is}
+use Rattle.mr_pieces.proofs.writer.without_spaces.Goals as goal
+
+pub slice_bounds-result-count : goal.slice_bounds-result-count
+slice_bounds-result-count c = omega (arith, suffix_len-le-length is_space c.args.text.now)
+
+pub returns : goal.returns
+returns c =
+    let text = c.args.text.now in
+    ap (λ (n : ℕ). take (length text - n) text) c.trailing_spaces-spaces.ensures ∙ sym (trimmed_is text)
