@@ -1,0 +1,5 @@
+pub mod Blank
+pub mod Comparing
+pub mod Digits
+pub mod Kept
+pub mod Total

@@ -1,0 +1,10 @@
+pub mod Refusals
+pub mod Values
+pub mod Order
+pub mod Expiry
+pub mod Fields
+pub mod FieldValues
+pub mod Promises
+pub mod Sizes
+pub mod Grammatical
+pub mod Rows

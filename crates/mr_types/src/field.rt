@@ -1,0 +1,73 @@
+//! Fields that lie in a key or a row.
+
+ghost use Rattle.std.specs.Prelude.{◌≡◌, ◌<◌, length, slice_index};
+ghost use Rattle.mr_types.specs.Fields.{Lies, lying};
+
+use crate::kind::Kind;
+use mr_pieces::{bytes_byte, bytes_length, text_byte, text_length};
+use std::marker::Model;
+
+/// A text or bytes that lie in a key in pieces, with what the key dropped of them; contracts see
+/// the bytes of the value.
+#[derive(Drop)]
+pub struct Pieces<'a> {
+    pieces: &'a [u8],
+    unpack: &'a [u8],
+    kind: Kind,
+}
+
+impl<'a> Model for Pieces<'a> {
+    ghost use Rattle.std.specs.Prelude.{ℕ, List};
+    ghost use Rattle.mr_types.specs.Fields.{Lies, lying};
+
+    ghost Value = { List ℕ };
+
+    ghost view = { λ p. lying p.kind p.pieces.now p.unpack.now };
+
+    ghost invariant = { λ p. Lies p.kind p.pieces.now p.unpack.now };
+}
+
+impl<'a> Pieces<'a> {
+    /// The whole pieces of one column of the kind, without the byte for NULL, and the unpack form
+    /// that fits them, which is empty for bytes.
+    pub fn new(pieces: &'a [u8], unpack: &'a [u8], kind: Kind) -> Pieces<'a>
+        requires { Lies kind pieces.now unpack.now }
+        ensures { result ≡ lying kind pieces.now unpack.now }
+    {
+        Pieces {
+            pieces,
+            unpack,
+            kind,
+        }
+    }
+
+    /// How many bytes the text or the bytes have.
+    pub fn len(&self) -> usize
+        ensures { result ≡ length self.now }
+    {
+        match self.kind {
+            Kind::VarChar(_, collation) => text_length(collation, self.pieces, self.unpack),
+            _ => bytes_length(self.pieces),
+        }
+    }
+
+    /// The byte at a place of the text or of the bytes.
+    pub fn byte(&self, at: usize) -> u8
+        requires { at < length self.now }
+        ensures { result ≡ slice_index self.now at }
+    {
+        match self.kind {
+            Kind::VarChar(_, collation) => text_byte(collation, self.pieces, self.unpack, at),
+            _ => bytes_byte(self.pieces, at),
+        }
+    }
+}
+
+/// A value where it lies, without a copy.
+#[derive(Drop)]
+pub enum FieldRef<'a> {
+    Null,
+    Number(i128),
+    Slice(&'a [u8]),
+    Pieces(Pieces<'a>),
+}
