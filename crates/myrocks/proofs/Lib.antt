@@ -1,0 +1,9 @@
+pub mod Causes
+pub mod Running
+pub mod Emitted
+pub mod Served
+pub mod Appending
+pub mod Events
+pub mod Offences
+pub mod Replaying
+pub mod Whole

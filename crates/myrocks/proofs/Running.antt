@@ -1,0 +1,214 @@
+-- One event at a host, and several.
+use Rattle.std.proofs.Common.{◌≡◌, ℕ, ◌+◌, ◌-◌, ◌^◌, ◌≤◌, ◌<◌, min, List, [], ◌∷◌, ◌++◌, length, take, drop, refl, ap, sym, ◌∙◌, inl, inr, subst, arith, append_assoc, append-nil, Bool, true, false, IsTrue, Result, Ok, Err, IsErr, IsErrAnd, IfErr, is_ok, OnOk}
+use Rattle.std.proofs.lemmas.List.{append_cancel_left, take-append-drop}
+use Rattle.mr_base.specs.Disk.{State, Moment, Tells, MayLeave, present, file_of}
+use Rattle.mr_base.specs.Calls.{During, IsShown}
+use Rattle.mr_base.proofs.Moments.{started, weaker, goes_on, at_end}
+use Rattle.mr_spec.specs.ReplyText.{text_of}
+use Rattle.mr_spec.specs.Replied.{replied}
+use Rattle.mr_spec.specs.ScriptRun.{IsWithin}
+use Rattle.mr_spec.specs.World.{Event, output_of, added_by}
+use Rattle.mr_spec.specs.declared.commits.Commit.{Commit}
+use Rattle.mr_spec.proofs.Events.{output_on, added_on, within_start, within_left, within_right, within_reply, within_added}
+use Rattle.mr_spec.proofs.Replied.{replied_none, replied_behind, replied_all, replied_more, replied_front}
+use Rattle.myrocks.specs.Emitting.{IsCutShort}
+use Rattle.myrocks.specs.Folder.{Holds}
+use Rattle.myrocks.specs.Settled.{IsSettled, IsFront, IsInside, counted, RunsFrom, Runs, IsAppending, AppendsFrom, Appends}
+
+pub not_ok : {T E : Type 0} (r : Result T E) → IsErr r → is_ok r ≡ false
+not_ok (Ok x) h = sym h
+not_ok (Err e) h = refl
+
+pub on_ok : {T E : Type 0} (P : Type 0) (r : Result T E) → OnOk r P → is_ok r ≡ true → P
+on_ok P (Ok x) h e = h
+on_ok P (Err x) h e = cc
+
+-- what is known of the error that an answer carries is known of the answer
+pub err_is : {T E : Type 0} (r : Result T E) (e : E) (P : E → Type 0) → IsErrAnd r (λ x. x ≡ e) → P e → IfErr r P
+err_is (Ok x) e P h p = tt
+err_is (Err x) e P h p = subst P (sym h) p
+
+nothing_shown : (before now shown : List ℕ) → now ≡ before → now ≡ before ++ shown → shown ≡ []
+nothing_shown before now shown same more = sym (append_cancel_left before [] shown (append-nil before ∙ sym same ∙ more))
+
+front_start : (es : List Event) (output now : List ℕ) → now ≡ output → IsFront es output now
+front_start es output now same = record { shown = []; unshown = output_of es; front = refl; output = same ∙ sym (append-nil output) }
+
+front_left : (es more : List Event) (output now : List ℕ) → IsFront es output now → IsFront (es ++ more) output now
+front_left es more output now f = record {
+  shown = f.shown;
+  unshown = f.unshown ++ output_of more;
+  front = output_on es more ∙ ap (λ x. x ++ output_of more) f.front ∙ append_assoc f.shown f.unshown (output_of more);
+  output = f.output;
+}
+
+front_right : (es more : List Event) (output now : List ℕ) → IsFront more (output ++ output_of es) now → IsFront (es ++ more) output now
+front_right es more output now f = record {
+  shown = output_of es ++ f.shown;
+  unshown = f.unshown;
+  front = output_on es more ∙ ap (λ x. output_of es ++ x) f.front ∙ sym (append_assoc (output_of es) f.shown f.unshown);
+  output = f.output ∙ append_assoc output (output_of es) f.shown;
+}
+
+-- where nothing has happened yet
+pub settled_inside : (es : List Event) (s : State) (commits : List Commit) (output : List ℕ) → IsSettled s commits output → IsInside es commits output (present s)
+settled_inside es s commits output settled = record {
+  shown = front_start es output (present s).output settled.emitted;
+  left = λ bytes may. (
+    commits,
+    subst (λ (b : List ℕ). Holds commits b) (sym (settled.at_rest bytes may)) settled.log,
+    subst (λ (o : List ℕ). IsWithin es commits output commits o) (sym settled.emitted) (within_start es commits output),
+  );
+}
+
+pub inside_left : (es more : List Event) (commits : List Commit) (output : List ℕ) (m : Moment) → IsInside es commits output m → IsInside (es ++ more) commits output m
+inside_left es more commits output m here = record {
+  shown = front_left es more output m.output here.shown;
+  left = λ bytes may. let x = here.left bytes may in (x.0, x.1, within_left es more commits x.0 output m.output x.2);
+}
+
+pub inside_right : (es more : List Event) (commits : List Commit) (output : List ℕ) (m : Moment) → IsInside more (commits ++ added_by es) (output ++ output_of es) m → IsInside (es ++ more) commits output m
+inside_right es more commits output m here = record {
+  shown = front_right es more output m.output here.shown;
+  left = λ bytes may. let x = here.left bytes may in (x.0, x.1, within_right es more commits x.0 output m.output x.2);
+}
+
+-- nothing is done
+pub runs_nothing : (s : State) (n : ℕ) → Runs s s n n [] true
+runs_nothing s n tells commits output settled = record {
+  moments = started s _ (settled_inside [] s commits output settled);
+  settled = λ _. record { log = subst (λ (c : List Commit). Holds c (file_of s 1).bytes) (sym (append-nil commits)) settled.log; at_rest = settled.at_rest; emitted = settled.emitted ∙ sym (append-nil output) };
+  replies = λ shown more. omega arith;
+  tells = tells;
+}
+
+counted_on : (a b c l r : ℕ) → counted b ≡ counted (a + l) → counted c ≡ counted (b + r) → counted c ≡ counted (a + (l + r))
+counted_on a b c l r first second = omega (arith, first, second)
+
+-- events, and then more of them
+pub runs_on : (a b c : State) (n0 n1 n2 : ℕ) (es more : List Event) (done : Bool) → Runs a b n0 n1 es true → Runs b c n1 n2 more done → Runs a c n0 n2 (es ++ more) done
+runs_on a b c n0 n1 n2 es more done first second tells commits output settled =
+    let f = first tells commits output settled in
+    let mid = f.settled refl in
+    let t = second f.tells (commits ++ added_by es) (output ++ output_of es) mid in
+    record {
+      moments = goes_on a b c _ _ (weaker a b _ _ (λ m. inside_left es more commits output m) f.moments) t.moments (λ m. inside_right es more commits output m);
+      settled = λ d. let e = t.settled d in record {
+        log = subst (λ (x : List Commit). Holds x (file_of c 1).bytes) (append_assoc commits (added_by es) (added_by more) ∙ ap (λ x. commits ++ x) (sym (added_on es more))) e.log;
+        at_rest = e.at_rest;
+        emitted = e.emitted ∙ append_assoc output (output_of es) (output_of more) ∙ ap (λ x. output ++ x) (sym (output_on es more));
+      };
+      replies = λ shown is.
+          let now = (at_end b c _ t.moments).shown in
+          let same : shown ≡ output_of es ++ now.shown = append_cancel_left output shown (output_of es ++ now.shown) (sym is ∙ now.output ∙ append_assoc output (output_of es) now.shown) in
+          let count : replied (es ++ more) shown ≡ length es + replied more now.shown = ap (replied (es ++ more)) same ∙ replied_behind es more now.shown in
+          let one : counted n1 ≡ counted (n0 + length es) = f.replies (output_of es) mid.emitted ∙ ap (λ x. counted (n0 + x)) (replied_all es) in
+          counted_on n0 n1 n2 (length es) (replied more now.shown) one (t.replies now.shown now.output) ∙ ap (λ x. counted (n0 + x)) (sym count);
+      tells = t.tells;
+    }
+
+-- events of a longer list, up to an error
+pub runs_cut : {T E : Type 0} (a b : State) (n0 n1 : ℕ) (es more : List Event) (done : Bool) (r : Result T E) → IsErr r → Runs a b n0 n1 es done → Runs a b n0 n1 (es ++ more) (is_ok r)
+runs_cut a b n0 n1 es more done r err first tells commits output settled =
+    let f = first tells commits output settled in
+    let no = not_ok r err in
+    record {
+      moments = weaker a b _ _ (λ m. inside_left es more commits output m) f.moments;
+      settled = λ e. cc;
+      replies = λ shown is.
+          let now = (at_end a b _ f.moments).shown in
+          let same : shown ≡ now.shown = append_cancel_left output shown now.shown (sym is ∙ now.output) in
+          let count : replied (es ++ more) shown ≡ replied es shown = replied_more es more shown now.unshown (now.front ∙ ap (λ x. x ++ now.unshown) (sym same)) in
+          f.replies shown is ∙ ap (λ x. counted (n0 + x)) (sym count);
+      tells = f.tells;
+    }
+
+-- ---- one event
+
+-- its commits are being appended
+pub appending_inside : (e : Event) (added commits : List Commit) (output : List ℕ) → added ≡ e.added → (m : Moment) → IsAppending commits added output m → IsInside (e ∷ []) commits output m
+appending_inside e added commits output same m here = record {
+  shown = front_start (e ∷ []) output m.output here.emitted;
+  left = λ bytes may. elim (here.left bytes may) [
+    | inl before ↦ (commits, before, subst (λ (o : List ℕ). IsWithin (e ∷ []) commits output commits o) (sym here.emitted) (within_start (e ∷ []) commits output))
+    | inr after ↦ (
+      commits ++ e.added,
+      subst (λ (x : List Commit). Holds (commits ++ x) bytes) same after,
+      subst (λ (o : List ℕ). IsWithin (e ∷ []) commits output (commits ++ e.added) o) (sym here.emitted) (within_added e commits output),
+    )
+  ];
+}
+
+-- its reply is being emitted
+pub shown_inside : (e : Event) (text : List ℕ) (s : State) (commits : List Commit) (output : List ℕ) → text ≡ text_of e.reply → IsSettled s (commits ++ e.added) output → (m : Moment) → IsShown text (present s) m → IsInside (e ∷ []) commits output m
+shown_inside e text s commits output same settled m here =
+    let now : m.output ≡ output ++ take here.count (text_of e.reply) = here.output ∙ ap (λ x. x ++ take here.count text) settled.emitted ∙ ap (λ x. output ++ take here.count x) same in
+    record {
+      shown = record { shown = take here.count (text_of e.reply); unshown = drop here.count (text_of e.reply); front = append-nil (text_of e.reply) ∙ sym (take-append-drop here.count (text_of e.reply)); output = now };
+      left = λ bytes may. (
+        commits ++ e.added,
+        subst (λ (b : List ℕ). Holds (commits ++ e.added) b) (sym (settled.at_rest bytes (subst (λ f. MayLeave f bytes) (here.files 1) may))) settled.log,
+        subst (λ (o : List ℕ). IsWithin (e ∷ []) commits output (commits ++ e.added) o) (sym now) (within_reply e commits output here.count),
+      );
+    }
+
+counted_none : (n k : ℕ) → k ≡ 0 → counted n ≡ counted (n + k)
+counted_none n k none = omega (arith, none)
+
+-- an exit before anything is emitted
+pub runs_append : {T E : Type 0} (a b : State) (n : ℕ) (e : Event) (added : List Commit) (done : Bool) (r : Result T E) → IsErr r → added ≡ e.added → (Tells a → Tells b) → Appends a b added done → Runs a b n n (e ∷ []) (is_ok r)
+runs_append a b n e added done r err same keeps appends tells commits output settled =
+    let no = not_ok r err in
+    let x = appends tells commits output settled in
+    let moments : During a b (IsInside (e ∷ []) commits output) = weaker a b _ _ (appending_inside e added commits output same) x.moments in
+    record {
+      moments = moments;
+      settled = λ q. cc;
+      replies = λ shown is.
+          let none : shown ≡ [] = nothing_shown output (present b).output shown (at_end a b _ x.moments).emitted is in
+          counted_none n (replied (e ∷ []) shown) (ap (replied (e ∷ [])) none ∙ replied_none (e ∷ []));
+      tells = keeps tells;
+    }
+
+-- an exit while the reply is emitted
+pub runs_shown : {T E : Type 0} (a b c : State) (n : ℕ) (e : Event) (added : List Commit) (text : List ℕ) (r : Result T E) → IsErr r → added ≡ e.added → text ≡ text_of e.reply → (Tells a → Tells b) → (Tells b → Tells c) → Appends a b added true
+    → (Tells b → During b c (IsShown text (present b))) → (Tells b → IsCutShort text (present b).output (present c).output) → Runs a c n n (e ∷ []) (is_ok r)
+runs_shown a b c n e added text r err same shows keeps goes appends shown cut tells commits output settled =
+    let no = not_ok r err in
+    let x = appends tells commits output settled in
+    let mid : IsSettled b (commits ++ e.added) output = subst (λ (y : List Commit). IsSettled b (commits ++ y) output) same (x.settled refl) in
+    let short = cut (keeps tells) in
+    record {
+      moments = goes_on a b c _ _ (weaker a b _ _ (appending_inside e added commits output same) x.moments) (shown (keeps tells)) (shown_inside e text b commits output shows mid);
+      settled = λ q. cc;
+      replies = λ out is.
+          let front : out ≡ take short.count (text_of e.reply) = append_cancel_left output out (take short.count (text_of e.reply)) (sym is ∙ short.output ∙ ap (λ z. z ++ take short.count text) mid.emitted ∙ ap (λ z. output ++ take short.count z) shows) in
+          let less : short.count < length (text_of e.reply) = subst (λ (z : List ℕ). short.count < length z) shows short.less in
+          counted_none n (replied (e ∷ []) out) (ap (replied (e ∷ [])) front ∙ replied_front e [] short.count less);
+      tells = goes (keeps tells);
+    }
+
+counted_one : (n m k : ℕ) → m ≡ min (n + 1) (2 ^ 64 - 1) → k ≡ 1 → counted m ≡ counted (n + k)
+counted_one n m k is one = omega (arith, is, one)
+
+-- the commits are there, and the whole reply is out
+pub runs_done : (a b c : State) (n m : ℕ) (e : Event) (added : List Commit) (text : List ℕ) → added ≡ e.added → text ≡ text_of e.reply → (Tells a → Tells b) → (Tells b → Tells c) → m ≡ min (n + 1) (2 ^ 64 - 1) → Appends a b added true
+    → (Tells b → During b c (IsShown text (present b))) → (Tells b → (present c).output ≡ (present b).output ++ text) → Runs a c n m (e ∷ []) true
+runs_done a b c n m e added text same shows keeps goes count appends shown whole tells commits output settled =
+    let x = appends tells commits output settled in
+    let mid : IsSettled b (commits ++ e.added) output = subst (λ (y : List Commit). IsSettled b (commits ++ y) output) same (x.settled refl) in
+    let during = shown (keeps tells) in
+    let files = (at_end b c _ during).files 1 in
+    let out : (present c).output ≡ output ++ (text_of e.reply ++ []) = whole (keeps tells) ∙ ap (λ z. z ++ text) mid.emitted ∙ ap (λ z. output ++ z) (shows ∙ sym (append-nil (text_of e.reply))) in
+    record {
+      moments = goes_on a b c _ _ (weaker a b _ _ (appending_inside e added commits output same) x.moments) during (shown_inside e text b commits output shows mid);
+      settled = λ _. record {
+        log = subst (λ f. Holds (commits ++ (e.added ++ [])) f.bytes) (sym files) (subst (λ (y : List Commit). Holds (commits ++ y) (file_of b 1).bytes) (sym (append-nil e.added)) mid.log);
+        at_rest = subst (λ f. (d : List ℕ) → MayLeave f d → d ≡ f.bytes) (sym files) mid.at_rest;
+        emitted = out;
+      };
+      replies = λ shown is.
+          let front : shown ≡ output_of (e ∷ []) = append_cancel_left output shown (output_of (e ∷ [])) (sym is ∙ out) in
+          counted_one n m (replied (e ∷ []) shown) count (ap (replied (e ∷ [])) front ∙ replied_all (e ∷ []));
+      tells = goes (keeps tells);
+    }

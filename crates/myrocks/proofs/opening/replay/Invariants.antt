@@ -1,0 +1,19 @@
+use Rattle.std.proofs.Common.{◌≡◌, ◌≤◌, ◌-◌}
+use Rattle.mr_base.specs.Disk.{Tells}
+use Rattle.mr_base.specs.Calls.{Same}
+use Rattle.myrocks.specs.Causes.{GoesOn}
+use Rattle.myrocks.specs.Opening.{Replaying}
+use Rattle.myrocks.proofs.opening.replay.Given as goal
+
+abbrev pub invariant-records : goal.invariant-records
+invariant-records g l =
+    let disk = g.H.Disk.disk in
+    record {
+      goes_on : GoesOn (disk l.fn.host) (disk l.host);
+      same : Tells (disk l.fn.host) → Same (disk l.fn.host) (disk l.host);
+      within : l.at ≤ l.log.end;
+      replaying : Replaying (disk l.fn.host) l.at l.tables l.moment;
+    }
+
+abbrev pub decreases-records : goal.decreases-records
+decreases-records g l = l.log.end - l.at

@@ -1,0 +1,77 @@
+-- A run that opened a folder and served a script, before its status is told.
+use Rattle.std.specs.Prelude.{◌≡◌, ℕ, List, [], ◌++◌, Bool, true, IsTrue, Option, Some, None, Result, Ok, Err, is_ok}
+use Rattle.mr_base.specs.Disk.{State, Tells, HasRisen, present, seen, file_of}
+use Rattle.mr_base.specs.Calls.{Same}
+use Rattle.mr_gate.specs.Log.{is_damaged_from}
+use Rattle.mr_base.specs.Source.{SourceState, ClockState}
+use Rattle.mr_base.specs.declared.stop.Stop.{Stop}
+use Rattle.mr_base.specs.declared.stop.Stop.TheVariants.{Memory, Disk, Full, Damaged}
+use Rattle.mr_spec.specs.ScriptRun.{run_of}
+use Rattle.mr_spec.specs.World.{reopened, has_error}
+use Rattle.mr_spec.specs.declared.commits.Commit.{Commit}
+use Rattle.myrocks.specs.Causes.{IsFull}
+use Rattle.myrocks.specs.Opening.{IsDamagedAt}
+use Rattle.myrocks.specs.Settled.{RunsFrom}
+use Rattle.myrocks.specs.declared.ending.Ending.{Ending}
+use Rattle.myrocks.specs.declared.ending.Ending.TheVariants.{Stopped, EmitFault, SourceFault, TooLong}
+
+-- what is answered of a run that came to its end
+abbrev pub AnswersError : Result Bool Ending → Bool → Type 0
+AnswersError (Ok answer) error = answer ≡ error
+AnswersError (Err ending) error = Unit {0}
+
+-- there are a script and values of the clock, their own where they tell, and the script's events ran, wholly where it is Ok
+pub record RunsWhole (source : SourceState) (clock_old : ClockState) (old new : State) (statements : ℕ) (result : Result Bool Ending) (commits : List Commit) : Type 0 where
+  pub script : List ℕ
+  pub script_told : IsTrue source.tells → script ≡ source.left
+  pub clock : ℕ → ℕ
+  pub clock_told : IsTrue clock_old.tells → (k : ℕ) → clock k ≡ clock_old.values k
+  pub runs : RunsFrom old new 0 statements (run_of script clock (reopened commits)) (is_ok result) commits (present old).output
+  pub error : AnswersError result (has_error (run_of script clock (reopened commits)))
+
+-- what a run shows that ends so
+abbrev pub IsRunCause : SourceState → SourceState → State → State → ℕ → Ending → Type 0
+IsRunCause source_old source_new old new taken (Stopped Memory) = Unit {0}
+IsRunCause source_old source_new old new taken (Stopped Disk) = HasRisen old.faults new.faults
+IsRunCause source_old source_new old new taken (Stopped (Full what at limit)) = IsFull new what at limit
+IsRunCause source_old source_new old new taken (Stopped (Damaged file at)) = (file ≡ 1) × (Tells old → IsDamagedAt (file_of old 1).bytes at)
+IsRunCause source_old source_new old new taken EmitFault = HasRisen old.emit_faults new.emit_faults
+IsRunCause source_old source_new old new taken SourceFault = HasRisen source_old.faults source_new.faults
+IsRunCause source_old source_new old new taken TooLong = taken ≡ 1073741825
+
+-- a run that ends otherwise than for memory, the disk or damage has served a folder with P
+abbrev pub IsServed : Result Bool Ending → Type 0 → Type 0
+IsServed (Ok answer) P = P
+IsServed (Err (Stopped Memory)) P = Unit {0}
+IsServed (Err (Stopped Disk)) P = Unit {0}
+IsServed (Err (Stopped (Damaged file at))) P = Unit {0}
+IsServed (Err (Stopped (Full what at limit))) P = P
+IsServed (Err EmitFault) P = P
+IsServed (Err SourceFault) P = P
+IsServed (Err TooLong) P = P
+
+-- a run that ends because the log itself is damaged has changed nothing
+abbrev pub KeepsDamaged : State → State → Ending → Type 0
+KeepsDamaged old new (Stopped Memory) = Unit {0}
+KeepsDamaged old new (Stopped Disk) = Unit {0}
+KeepsDamaged old new (Stopped (Full what at limit)) = Unit {0}
+KeepsDamaged old new (Stopped (Damaged file at)) = Tells old → is_damaged_from 0 (file_of old 1).bytes ≡ true → Same old new
+KeepsDamaged old new EmitFault = Unit {0}
+KeepsDamaged old new SourceFault = Unit {0}
+KeepsDamaged old new TooLong = Unit {0}
+
+-- what is reported of an ending, and its status
+abbrev pub reported : Ending → Option Stop
+reported (Stopped stop) = Some stop
+reported EmitFault = None
+reported SourceFault = None
+reported TooLong = None
+
+abbrev pub status : Ending → ℕ
+status (Stopped Memory) = 3
+status SourceFault = 4
+status (Stopped Disk) = 5
+status EmitFault = 6
+status (Stopped (Damaged file at)) = 7
+status TooLong = 8
+status (Stopped (Full what at limit)) = 9

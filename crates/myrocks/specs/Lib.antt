@@ -1,0 +1,9 @@
+pub mod Folder
+pub mod Emitting
+pub mod Settled
+pub mod Serving
+pub mod Reading
+pub mod Opening
+pub mod Headline
+pub mod Ended
+pub mod Causes

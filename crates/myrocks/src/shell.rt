@@ -1,0 +1,146 @@
+//! A script in pieces.
+
+ghost use Rattle.std.specs.Prelude.{◌≡◌, ℕ, List, [], ◌∷◌, Option, OnOk, IfErr, is_ok, map};
+ghost use Rattle.mr_spec.specs.Bytes.{trimmed, is_white as white_test};
+ghost use Rattle.mr_spec.specs.Cutting.{left_by, part_of, rest_of};
+ghost use Rattle.mr_spec.specs.ScriptRun.{statements_in, read_part};
+ghost use Rattle.myrocks.specs.Serving.{IsServing, IsRead, Serves};
+ghost use Rattle.myrocks.specs.Causes.{GoesOn, IsCausedBy};
+
+use crate::ending::Ending;
+use crate::server::Server;
+use mr_base::{Clock, Host};
+use mr_model::read_statement;
+use mr_spec::Statement;
+use std::alloc::Global;
+use std::mem;
+
+/// The text without the white space in front.
+fn trim(text: &[u8]) -> &[u8]
+    ensures { result.now ≡ trimmed text.now }
+{
+    let mut at = 0;
+    while at < text.len() && is_white(text[at]) {
+        at += 1;
+    }
+    &text[at..]
+}
+
+fn is_white(byte: u8) -> bool
+    ensures { result ≡ white_test byte }
+{
+    byte == b' ' || (9 <= byte && byte <= 13)
+}
+
+impl Server {
+    /// Takes the clock's next value, and serves a statement, or a text that is none.
+    fn serve_next<H: Host, C: Clock>(
+        &mut self,
+        alloc: Global,
+        host: &mut H,
+        clock: &mut C,
+        statement: Option<Statement>,
+    ) -> Result<(), Ending>
+        requires serving { IsServing self.old (H.disk host.old) }
+        requires read { IsRead statement }
+        ensures serving { OnOk result (IsServing self.new (H.disk host.new)) }
+        ensures serves { Serves self.old self.new (C.clock clock.old) (C.clock clock.new) (H.disk host.old) (H.disk host.new) (is_ok result) (statement ∷ []) }
+        ensures goes_on { GoesOn (H.disk host.old) (H.disk host.new) }
+        ensures cause { IfErr result (IsCausedBy (H.disk host.old) (H.disk host.new)) }
+    {
+        let value = clock.now();
+        self.serve(alloc, host, statement, value)
+    }
+
+    /// Serves what stands before a `;`.
+    fn serve_part<H: Host, C: Clock>(
+        &mut self,
+        alloc: Global,
+        host: &mut H,
+        clock: &mut C,
+        part: &[u8],
+    ) -> Result<(), Ending>
+        requires serving { IsServing self.old (H.disk host.old) }
+        ensures serving { OnOk result (IsServing self.new (H.disk host.new)) }
+        ensures serves { Serves self.old self.new (C.clock clock.old) (C.clock clock.new) (H.disk host.old) (H.disk host.new) (is_ok result) (map read_part (part_of part.now)) }
+        ensures goes_on { GoesOn (H.disk host.old) (H.disk host.new) }
+        ensures cause { IfErr result (IsCausedBy (H.disk host.old) (H.disk host.new)) }
+    {
+        let text = trim(part);
+        if text.is_empty() {
+            return Ok(());
+        }
+        let statement = read_statement(alloc, text)?;
+        self.serve_next(alloc, host, clock, statement)
+    }
+}
+
+/// A server, and the bytes since the last `;`.
+#[derive(Drop)]
+pub(crate) struct Shell {
+    pub(crate) server: Server,
+    pub(crate) part: Vec<u8>,
+}
+
+impl Shell {
+    fn feed<H: Host, C: Clock>(
+        &mut self,
+        alloc: Global,
+        host: &mut H,
+        clock: &mut C,
+        byte: u8,
+    ) -> Result<(), Ending>
+        requires serving { IsServing self.old.server (H.disk host.old) }
+        ensures serving { OnOk result (IsServing self.new.server (H.disk host.new)) }
+        ensures serves { Serves self.old.server self.new.server (C.clock clock.old) (C.clock clock.new) (H.disk host.old) (H.disk host.new) (is_ok result) (statements_in self.old.part.items (byte ∷ [])) }
+        ensures part { OnOk result (self.new.part.items ≡ left_by self.old.part.items (byte ∷ [])) }
+        ensures goes_on { GoesOn (H.disk host.old) (H.disk host.new) }
+        ensures cause { IfErr result (IsCausedBy (H.disk host.old) (H.disk host.new)) }
+    {
+        if byte != b';' {
+            self.part.push(byte)?;
+            return Ok(());
+        }
+        let part = mem::replace(&mut self.part, Vec::new(alloc));
+        self.server.serve_part(alloc, host, clock, part.as_slice())
+    }
+
+    /// Takes the next piece of the script.
+    pub(crate) fn feed_all<H: Host, C: Clock>(
+        &mut self,
+        alloc: Global,
+        host: &mut H,
+        clock: &mut C,
+        bytes: &[u8],
+    ) -> Result<(), Ending>
+        requires serving { IsServing self.old.server (H.disk host.old) }
+        ensures serving { OnOk result (IsServing self.new.server (H.disk host.new)) }
+        ensures serves { Serves self.old.server self.new.server (C.clock clock.old) (C.clock clock.new) (H.disk host.old) (H.disk host.new) (is_ok result) (statements_in self.old.part.items bytes.now) }
+        ensures part { OnOk result (self.new.part.items ≡ left_by self.old.part.items bytes.now) }
+        ensures goes_on { GoesOn (H.disk host.old) (H.disk host.new) }
+        ensures cause { IfErr result (IsCausedBy (H.disk host.old) (H.disk host.new)) }
+    {
+        for byte in bytes {
+            self.feed(alloc, host, clock, *byte)?;
+        }
+        Ok(())
+    }
+
+    /// Serves what stands at the script's end.
+    pub(crate) fn finish<H: Host, C: Clock>(
+        &mut self,
+        alloc: Global,
+        host: &mut H,
+        clock: &mut C,
+    ) -> Result<(), Ending>
+        requires serving { IsServing self.old.server (H.disk host.old) }
+        ensures serves { Serves self.old.server self.new.server (C.clock clock.old) (C.clock clock.new) (H.disk host.old) (H.disk host.new) (is_ok result) (map read_part (rest_of self.old.part.items)) }
+        ensures goes_on { GoesOn (H.disk host.old) (H.disk host.new) }
+        ensures cause { IfErr result (IsCausedBy (H.disk host.old) (H.disk host.new)) }
+    {
+        if trim(self.part.as_slice()).is_empty() {
+            return Ok(());
+        }
+        self.server.serve_next(alloc, host, clock, None)
+    }
+}
