@@ -1,0 +1,6 @@
+pub mod FirstDifference
+pub mod Numbers
+pub mod Columns
+pub mod Fitted
+pub mod Keys
+pub mod Ranges
