@@ -12,11 +12,11 @@ use Rattle.std.specs.declared.cmp.Ordering.TheVariants.{Less, Equal, Greater}
 use Rattle.std.specs.Global.{Vec}
 use Rattle.std.specs.Map.{lookup, set_value}
 use Rattle.std.specs.BTreeMap.{insert_entry, is_at}
-use Rattle.mr_spec.specs.Bytes.{same_bytes}
-use Rattle.mr_spec.specs.Database.{table_of, with_row, placed, has_key}
-use Rattle.mr_spec.specs.Lawful.{is_free_key}
-use Rattle.mr_spec.specs.declared.rows.Row.{Row}
-use Rattle.mr_spec.specs.declared.tables.Table.{Table}
+use Rattle.mr_first.specs.Bytes.{same_bytes}
+use Rattle.mr_first.specs.Database.{table_of, with_row, placed, has_key}
+use Rattle.mr_first.specs.Lawful.{is_free_key}
+use Rattle.mr_first.specs.declared.rows.Row.{Row}
+use Rattle.mr_first.specs.declared.tables.Table.{Table}
 use Rattle.mr_lists.specs.declared.held.Held.{Held}
 use Rattle.mr_lists.specs.Shown.{rows_in}
 use Rattle.mr_lists.specs.Listed.{named, table_at, tables_in}

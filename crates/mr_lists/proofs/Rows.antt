@@ -6,7 +6,7 @@ use Rattle.std.specs.Ordering.{int_cmp, is_eq, match_ordering}
 use Rattle.std.specs.declared.cmp.Ordering.TheVariants.{Less, Equal, Greater}
 use Rattle.std.specs.Map.{lookup}
 use Rattle.std.specs.BTreeMap.{insert_entry, is_at}
-use Rattle.mr_spec.specs.Database.{same_key, has_key, placed}
+use Rattle.mr_first.specs.Database.{same_key, has_key, placed}
 use Rattle.mr_lists.specs.Shown.{row_at}
 
 -- the order of keys tells them apart as the specification does

@@ -2,13 +2,13 @@
 use Rattle.std.proofs.Common.{◌≡◌, ℕ, List, [], ◌∷◌, ◌++◌, refl, ap, sym, ◌∙◌, true, false, not, ◌&&◌, cond, Option, Some, None}
 use Rattle.std.specs.Prelude.{is_none, map}
 use Rattle.std.specs.Option.{option_or, option_map}
-use Rattle.mr_spec.specs.Bytes.{same_bytes, is_valid_name, same_name}
-use Rattle.mr_spec.specs.Database.{table_of, with_row, applied, placed}
-use Rattle.mr_spec.specs.Lawful.{is_lawful_change, is_free_key, is_valid_row}
-use Rattle.mr_spec.specs.declared.rows.Row.{Row}
-use Rattle.mr_spec.specs.declared.tables.Table.{Table}
-use Rattle.mr_spec.specs.declared.commits.Change.{Change}
-use Rattle.mr_spec.specs.declared.commits.Change.TheVariants.{TableCreated, RowInserted}
+use Rattle.mr_first.specs.Bytes.{same_bytes, is_valid_name, same_name}
+use Rattle.mr_first.specs.Database.{table_of, with_row, applied, placed}
+use Rattle.mr_first.specs.Lawful.{is_lawful_change, is_free_key, is_valid_row}
+use Rattle.mr_first.specs.declared.rows.Row.{Row}
+use Rattle.mr_first.specs.declared.tables.Table.{Table}
+use Rattle.mr_first.specs.declared.commits.Change.{Change}
+use Rattle.mr_first.specs.declared.commits.Change.TheVariants.{TableCreated, RowInserted}
 use Rattle.mr_lists.specs.StandsFor.{StandsFor}
 
 pub stands_then : (a b c : List Table) → StandsFor a b → StandsFor b c → StandsFor a c

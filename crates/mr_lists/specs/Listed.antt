@@ -1,7 +1,7 @@
 -- The tables that are held, as a list.
 use Rattle.std.specs.Prelude.{ℕ, List, map}
 use Rattle.std.specs.Global.{Vec}
-use Rattle.mr_spec.specs.declared.tables.Table.{Table}
+use Rattle.mr_first.specs.declared.tables.Table.{Table}
 use Rattle.mr_lists.specs.declared.held.Held.{Held}
 use Rattle.mr_lists.specs.Shown.{rows_in}
 

@@ -1,7 +1,7 @@
 -- The rows and tables that are held, as lists.
 use Rattle.std.specs.Prelude.{ℤ, List, map}
 use Rattle.std.specs.BTreeMap.{BTreeMap}
-use Rattle.mr_spec.specs.declared.rows.Row.{Row}
+use Rattle.mr_first.specs.declared.rows.Row.{Row}
 
 -- the row of an entry
 abbrev pub row_at : ℤ × ℤ → Row

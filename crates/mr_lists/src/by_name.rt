@@ -2,14 +2,14 @@
 
 ghost use Rattle.std.specs.Prelude.{◌≡◌, true, [], ◌∷◌, ◌++◌, None, OnOk, map};
 ghost use Rattle.std.specs.Option.{option_map};
-ghost use Rattle.mr_spec.specs.Database.{table_of, with_row};
-ghost use Rattle.mr_spec.specs.Lawful.{is_free_key};
+ghost use Rattle.mr_first.specs.Database.{table_of, with_row};
+ghost use Rattle.mr_first.specs.Lawful.{is_free_key};
 ghost use Rattle.mr_lists.specs.StandsFor.{StandsFor};
 ghost use Rattle.mr_lists.specs.Listed.{tables_in, named};
 
 use crate::held::{Held, place};
 use mr_base::Memory;
-use mr_spec::Row;
+use mr_first::Row;
 use std::collections::BTreeMap;
 
 /// What is held of each table, by its name.

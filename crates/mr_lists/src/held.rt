@@ -1,11 +1,11 @@
 //! What is held of one table under its name.
 
 ghost use Rattle.std.specs.Prelude.{◌≡◌, false, IfOk, OnOk, [], is_some, None};
-ghost use Rattle.mr_spec.specs.Database.{has_key as has_key_among, placed};
+ghost use Rattle.mr_first.specs.Database.{has_key as has_key_among, placed};
 ghost use Rattle.mr_lists.specs.Shown.{rows_in};
 
 use mr_base::{Blob, Memory};
-use mr_spec::{Row, RowList};
+use mr_first::{Row, RowList};
 use std::alloc::Global;
 use std::collections::BTreeMap;
 

@@ -1,16 +1,16 @@
 //! Which changes a binary log may hold next.
 
 ghost use Rattle.std.specs.Prelude.{◌≡◌};
-ghost use Rattle.mr_spec.specs.Database.{table_of};
-ghost use Rattle.mr_spec.specs.Lawful.{is_lawful_change, is_free_key as is_free_key_of, is_valid_row as valid_row};
-ghost use Rattle.mr_spec.specs.declared.commits.Change.TheVariants.{TableCreated};
+ghost use Rattle.mr_first.specs.Database.{table_of};
+ghost use Rattle.mr_first.specs.Lawful.{is_lawful_change, is_free_key as is_free_key_of, is_valid_row as valid_row};
+ghost use Rattle.mr_first.specs.declared.commits.Change.TheVariants.{TableCreated};
 ghost use Rattle.mr_lists.specs.Listed.{tables_in};
 
 use crate::by_name::{ByName, find};
 use crate::held::has_key;
 use crate::names::{is_same_name, is_valid_name};
 use mr_base::Blob;
-use mr_spec::{Change, Row};
+use mr_first::{Change, Row};
 
 /// Whether both numbers are BIGINTs, as each number of 64 bits is.
 fn is_valid_row(row: &Row) -> bool

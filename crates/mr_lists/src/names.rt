@@ -1,7 +1,7 @@
 //! Names of tables and columns, as bytes.
 
 ghost use Rattle.std.specs.Prelude.{◌≡◌, map};
-ghost use Rattle.mr_spec.specs.Bytes.{folded as folded_of, same_name, is_name_byte, is_valid_name as valid_name};
+ghost use Rattle.mr_first.specs.Bytes.{folded as folded_of, same_name, is_name_byte, is_valid_name as valid_name};
 ghost use Rattle.std.specs.List.{list_all};
 
 fn are_name_bytes(name: &[u8]) -> bool

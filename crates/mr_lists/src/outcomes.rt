@@ -1,14 +1,14 @@
 //! What a statement does.
 
 ghost use Rattle.std.specs.Prelude.{◌≡◌, IfOk};
-ghost use Rattle.mr_spec.specs.Database.{refused as refused_of, outcome_of, insert_outcome, select_outcome, table_of};
-ghost use Rattle.mr_spec.specs.declared.statements.Statement.TheVariants.{CreateTable, Insert, Select};
+ghost use Rattle.mr_first.specs.Database.{refused as refused_of, outcome_of, insert_outcome, select_outcome, table_of};
+ghost use Rattle.mr_first.specs.declared.statements.Statement.TheVariants.{CreateTable, Insert, Select};
 ghost use Rattle.mr_lists.specs.Listed.{tables_in};
 
 use crate::by_name::{ByName, find};
 use crate::held::{has_key, list};
 use mr_base::{Blob, Memory};
-use mr_spec::{Change, Outcome, Reply, Row, Statement};
+use mr_first::{Change, Outcome, Reply, Row, Statement};
 use std::alloc::Global;
 
 fn refused(code: u16) -> Outcome

@@ -1,9 +1,9 @@
 //! The tables of a database, as the statements see them.
 
 ghost use Rattle.std.specs.Prelude.{◌≡◌, List, true, [], IfOk, OnOk};
-ghost use Rattle.mr_spec.specs.Database.{outcome_of, applied};
-ghost use Rattle.mr_spec.specs.Lawful.{is_lawful_change};
-ghost use Rattle.mr_spec.specs.declared.tables.Table.{Table};
+ghost use Rattle.mr_first.specs.Database.{outcome_of, applied};
+ghost use Rattle.mr_first.specs.Lawful.{is_lawful_change};
+ghost use Rattle.mr_first.specs.declared.tables.Table.{Table};
 ghost use Rattle.mr_lists.specs.StandsFor.{StandsFor};
 ghost use Rattle.mr_lists.specs.Listed.{tables_in};
 
@@ -11,7 +11,7 @@ use crate::by_name::{ByName, create, insert};
 use crate::held::Held;
 use crate::{lawful, outcomes};
 use mr_base::Memory;
-use mr_spec::{Change, Outcome, Statement};
+use mr_first::{Change, Outcome, Statement};
 use std::alloc::Global;
 use std::collections::BTreeMap;
 use std::marker::Model;
@@ -24,7 +24,7 @@ pub struct Tables {
 
 impl Model for Tables {
     ghost use Rattle.std.specs.Prelude.{List};
-    ghost use Rattle.mr_spec.specs.declared.tables.Table.{Table};
+    ghost use Rattle.mr_first.specs.declared.tables.Table.{Table};
 
     ghost Value = { List Table };
 

@@ -2,7 +2,7 @@
 
 use super::*;
 use mr_base::{Blob, Memory};
-use mr_spec::{Change, Outcome, Reply, Row, Statement};
+use mr_first::{Change, Outcome, Reply, Row, Statement};
 use std::alloc::{AllocError, Global};
 use std::test::Fail;
 

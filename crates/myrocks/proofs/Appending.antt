@@ -10,10 +10,10 @@ use Rattle.mr_base.proofs.Moments.{started, weaker, at_end, same_file}
 use Rattle.mr_gate.specs.Log.{IsLog, records_from, end_from, span}
 use Rattle.mr_gate.specs.Gate.{Gate, IsBeforeOrAfter, IsAfter, IsUntouched, HasNoRoom, full, appended, Stands as StandsOn}
 use Rattle.mr_gate.proofs.Laws.{stands_length}
-use Rattle.mr_spec.specs.CommitForm.{read_commit}
-use Rattle.mr_spec.specs.LogCommits.{read_commits}
-use Rattle.mr_spec.specs.declared.commits.Commit.{Commit}
-use Rattle.mr_spec.proofs.LogCommits.{commits_push}
+use Rattle.mr_first.specs.CommitForm.{read_commit}
+use Rattle.mr_first.specs.LogCommits.{read_commits}
+use Rattle.mr_first.specs.declared.commits.Commit.{Commit}
+use Rattle.mr_first.proofs.LogCommits.{commits_push}
 use Rattle.myrocks.specs.Causes.{GoesOn, IsCausedBy}
 use Rattle.myrocks.specs.Folder.{Holds}
 use Rattle.myrocks.specs.Settled.{IsSettled, IsAppending, AppendsFrom, Appends}

@@ -1,17 +1,17 @@
 -- One statement, as the event that it is in a world.
 use Rattle.std.proofs.Common.{◌≡◌, ℕ, List, [], ◌∷◌, ◌++◌, max, Option, Some, None, IfSome, refl, ap, sym, ◌∙◌, true, append-nil, subst}
-use Rattle.mr_spec.specs.CommitForm.{is_formed_change}
-use Rattle.mr_spec.specs.Database.{replay}
-use Rattle.mr_spec.specs.Lawful.{is_lawful_change}
-use Rattle.mr_spec.specs.ReplyText.{text_of}
-use Rattle.mr_spec.specs.World.{World, commits_at, event_at, outcome_at}
-use Rattle.mr_spec.specs.declared.commits.Change.{Change}
-use Rattle.mr_spec.specs.declared.commits.Commit.{Commit}
-use Rattle.mr_spec.specs.declared.commits.Outcome.{Outcome}
-use Rattle.mr_spec.specs.declared.statements.Statement.{Statement}
-use Rattle.mr_spec.specs.declared.tables.Table.{Table}
-use Rattle.mr_spec.proofs.LawfulEvents.{lawful_formed, outcome_lawful}
-use Rattle.mr_spec.proofs.LawfulSteps.{replay_push}
+use Rattle.mr_first.specs.CommitForm.{is_formed_change}
+use Rattle.mr_first.specs.Database.{replay}
+use Rattle.mr_first.specs.Lawful.{is_lawful_change}
+use Rattle.mr_first.specs.ReplyText.{text_of}
+use Rattle.mr_first.specs.World.{World, commits_at, event_at, outcome_at}
+use Rattle.mr_first.specs.declared.commits.Change.{Change}
+use Rattle.mr_first.specs.declared.commits.Commit.{Commit}
+use Rattle.mr_first.specs.declared.commits.Outcome.{Outcome}
+use Rattle.mr_first.specs.declared.statements.Statement.{Statement}
+use Rattle.mr_first.specs.declared.tables.Table.{Table}
+use Rattle.mr_first.proofs.LawfulEvents.{lawful_formed, outcome_lawful}
+use Rattle.mr_first.proofs.LawfulSteps.{replay_push}
 use Rattle.myrocks.specs.Serving.{Stands, IsRead, after_change}
 use Rattle.myrocks.specs.declared.server.Server.{Server}
 

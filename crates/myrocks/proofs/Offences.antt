@@ -2,15 +2,15 @@
 use Rattle.std.proofs.Common.{◌≡◌, ℕ, ◌+◌, ◌≤◌, List, [], ◌∷◌, ◌++◌, Option, Some, None, true, false, ◌&&◌, cond, refl, ap, sym, ◌∙◌, length, arith, nat_le}
 use Rattle.std.specs.Option.{option_map_or}
 use Rattle.std.proofs.lemmas.Bool.{and_parts, and_from, le-leb, leb-true}
-use Rattle.mr_spec.specs.CommitForm.{read_commit}
-use Rattle.mr_spec.specs.LogCommits.{read_commits}
-use Rattle.mr_spec.specs.Database.{applied, replayed, replay}
-use Rattle.mr_spec.specs.Lawful.{are_lawful, is_lawful_change, IsLawful}
-use Rattle.mr_spec.specs.World.{last_moment}
-use Rattle.mr_spec.specs.declared.commits.Commit.{Commit}
-use Rattle.mr_spec.specs.declared.tables.Table.{Table}
-use Rattle.mr_spec.proofs.LogCommits.{commits_cons, commits_both, commits_push}
-use Rattle.mr_spec.proofs.LawfulSteps.{lawful_push}
+use Rattle.mr_first.specs.CommitForm.{read_commit}
+use Rattle.mr_first.specs.LogCommits.{read_commits}
+use Rattle.mr_first.specs.Database.{applied, replayed, replay}
+use Rattle.mr_first.specs.Lawful.{are_lawful, is_lawful_change, IsLawful}
+use Rattle.mr_first.specs.World.{last_moment}
+use Rattle.mr_first.specs.declared.commits.Commit.{Commit}
+use Rattle.mr_first.specs.declared.tables.Table.{Table}
+use Rattle.mr_first.proofs.LogCommits.{commits_cons, commits_both, commits_push}
+use Rattle.mr_first.proofs.LawfulSteps.{lawful_push}
 use Rattle.mr_gate.specs.Log.{span}
 use Rattle.myrocks.specs.Opening.{if_lawful, judged, offence}
 

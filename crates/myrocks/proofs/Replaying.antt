@@ -11,13 +11,13 @@ use Rattle.mr_gate.proofs.Laws.{sound_log, opened_log, reaches_behind}
 use Rattle.mr_gate.proofs.Walk.{span-append}
 use mathlib.Core.Bool.{true≢false}
 use Rattle.mr_lists.specs.StandsFor.{StandsFor}
-use Rattle.mr_spec.specs.Database.{replay, applied}
-use Rattle.mr_spec.specs.Lawful.{is_lawful_change}
-use Rattle.mr_spec.specs.LogCommits.{read_commits}
-use Rattle.mr_spec.specs.World.{last_moment}
-use Rattle.mr_spec.specs.declared.commits.Commit.{Commit}
-use Rattle.mr_spec.specs.declared.tables.Table.{Table}
-use Rattle.mr_spec.proofs.LawfulSteps.{replay_push, last_moment_push}
+use Rattle.mr_first.specs.Database.{replay, applied}
+use Rattle.mr_first.specs.Lawful.{is_lawful_change}
+use Rattle.mr_first.specs.LogCommits.{read_commits}
+use Rattle.mr_first.specs.World.{last_moment}
+use Rattle.mr_first.specs.declared.commits.Commit.{Commit}
+use Rattle.mr_first.specs.declared.tables.Table.{Table}
+use Rattle.mr_first.proofs.LawfulSteps.{replay_push, last_moment_push}
 use Rattle.myrocks.specs.Folder.{Holds}
 use Rattle.myrocks.specs.Settled.{IsSettled}
 use Rattle.myrocks.specs.Causes.{GoesOn}

@@ -4,17 +4,17 @@ use Rattle.std.proofs.lemmas.Bool.{cases_lt}
 use Rattle.std.proofs.lemmas.Bool.Decides.{eqb_tells}
 use Rattle.mr_base.specs.Disk.{State}
 use Rattle.mr_base.specs.Source.{SourceState, ClockState}
-use Rattle.mr_spec.specs.Bytes.{trimmed}
-use Rattle.mr_spec.specs.Clocks.{joined}
-use Rattle.mr_spec.specs.Cutting.{left_by, part_of, rest_of}
-use Rattle.mr_spec.specs.Grammar.{read_statement}
-use Rattle.mr_spec.specs.ScriptRun.{statements_in, read_part, statements_of}
-use Rattle.mr_spec.specs.World.{World, Event, trace, world_behind, world_after, later, has_error}
-use Rattle.mr_spec.specs.declared.statements.Statement.{Statement}
-use Rattle.mr_spec.proofs.Cut.{error_on, statements_on, script_is, left_on}
-use Rattle.mr_spec.proofs.Events.{trace_on}
-use Rattle.mr_spec.proofs.TraceExt.{joined_first, joined_then, trace_joined, world_joined}
-use Rattle.mr_spec.proofs.ValidStatements.{valid_or_none}
+use Rattle.mr_first.specs.Bytes.{trimmed}
+use Rattle.mr_first.specs.Clocks.{joined}
+use Rattle.mr_first.specs.Cutting.{left_by, part_of, rest_of}
+use Rattle.mr_first.specs.Grammar.{read_statement}
+use Rattle.mr_first.specs.ScriptRun.{statements_in, read_part, statements_of}
+use Rattle.mr_first.specs.World.{World, Event, trace, world_behind, world_after, later, has_error}
+use Rattle.mr_first.specs.declared.statements.Statement.{Statement}
+use Rattle.mr_first.proofs.Cut.{error_on, statements_on, script_is, left_on}
+use Rattle.mr_first.proofs.Events.{trace_on}
+use Rattle.mr_first.proofs.TraceExt.{joined_first, joined_then, trace_joined, world_joined}
+use Rattle.mr_first.proofs.ValidStatements.{valid_or_none}
 use Rattle.myrocks.specs.Reading.{ServesScript, IsTaken}
 use Rattle.myrocks.specs.Settled.{Runs}
 use Rattle.myrocks.specs.Serving.{Stands, Serves, IsRead}

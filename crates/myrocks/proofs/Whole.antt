@@ -10,13 +10,13 @@ use Rattle.mr_base.specs.declared.stop.Stop.TheVariants.{Memory, Disk, Full, Dam
 use Rattle.mr_base.proofs.Moments.{weaker, goes_on, at_end}
 use Rattle.mr_gate.specs.Log.{records_from, is_damaged_from}
 use Rattle.mr_gate.specs.Gate.{IsDamage}
-use Rattle.mr_spec.specs.Replied.{replied}
-use Rattle.mr_spec.specs.ScriptRun.{IsWithin, run_of}
-use Rattle.mr_spec.specs.World.{Event, reopened, output_of, added_by, has_error}
-use Rattle.mr_spec.specs.declared.commits.Commit.{Commit}
-use Rattle.mr_spec.proofs.Events.{within_start}
-use Rattle.mr_spec.proofs.LawfulEvents.{run_lawful, run_all_lawful}
-use Rattle.mr_spec.proofs.Replied.{replied_none}
+use Rattle.mr_first.specs.Replied.{replied}
+use Rattle.mr_first.specs.ScriptRun.{IsWithin, run_of}
+use Rattle.mr_first.specs.World.{Event, reopened, output_of, added_by, has_error}
+use Rattle.mr_first.specs.declared.commits.Commit.{Commit}
+use Rattle.mr_first.proofs.Events.{within_start}
+use Rattle.mr_first.proofs.LawfulEvents.{run_lawful, run_all_lawful}
+use Rattle.mr_first.proofs.Replied.{replied_none}
 use Rattle.myrocks.specs.Ended.{RunsWhole, AnswersError, IsRunCause, KeepsDamaged, status}
 use Rattle.myrocks.specs.Folder.{Holds, StandsFor, IsValid}
 use Rattle.myrocks.specs.Headline.{Headline, IsComplete, IsCrashPrefix, IsReported, end_status}

@@ -6,9 +6,9 @@ use Rattle.mr_gate.specs.Log.{is_damaged_from}
 use Rattle.mr_base.specs.Source.{SourceState, ClockState}
 use Rattle.mr_base.specs.declared.stop.Stop.{Stop}
 use Rattle.mr_base.specs.declared.stop.Stop.TheVariants.{Memory, Disk, Full, Damaged}
-use Rattle.mr_spec.specs.ScriptRun.{run_of}
-use Rattle.mr_spec.specs.World.{reopened, has_error}
-use Rattle.mr_spec.specs.declared.commits.Commit.{Commit}
+use Rattle.mr_first.specs.ScriptRun.{run_of}
+use Rattle.mr_first.specs.World.{reopened, has_error}
+use Rattle.mr_first.specs.declared.commits.Commit.{Commit}
 use Rattle.myrocks.specs.Causes.{IsFull}
 use Rattle.myrocks.specs.Opening.{IsDamagedAt}
 use Rattle.myrocks.specs.Settled.{RunsFrom}

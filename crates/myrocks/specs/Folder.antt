@@ -2,9 +2,9 @@
 use Rattle.std.specs.Prelude.{◌≡◌, ℕ, List, Bool, false, Option, Some}
 use Rattle.mr_base.specs.Disk.{Image}
 use Rattle.mr_gate.specs.Log.{records_from, is_damaged_from}
-use Rattle.mr_spec.specs.Lawful.{IsLawful}
-use Rattle.mr_spec.specs.LogCommits.{read_commits}
-use Rattle.mr_spec.specs.declared.commits.Commit.{Commit}
+use Rattle.mr_first.specs.Lawful.{IsLawful}
+use Rattle.mr_first.specs.LogCommits.{read_commits}
+use Rattle.mr_first.specs.declared.commits.Commit.{Commit}
 
 -- a file is a log without damage, and the bodies of its records are these commits
 pub record Holds (commits : List Commit) (bytes : List ℕ) : Type 0 where

@@ -6,10 +6,10 @@ use Rattle.mr_base.specs.Source.{SourceState, ClockState}
 use Rattle.mr_base.specs.declared.stop.Stop.{Stop}
 use Rattle.mr_base.specs.declared.stop.Stop.TheVariants.{Memory, Disk, Full, Damaged}
 use Rattle.mr_base.specs.declared.stop.FullKind.TheVariants.{Log}
-use Rattle.mr_spec.specs.Replied.{replied}
-use Rattle.mr_spec.specs.ScriptRun.{run_of, IsWithin}
-use Rattle.mr_spec.specs.World.{Event, reopened, output_of, added_by, has_error}
-use Rattle.mr_spec.specs.declared.commits.Commit.{Commit}
+use Rattle.mr_first.specs.Replied.{replied}
+use Rattle.mr_first.specs.ScriptRun.{run_of, IsWithin}
+use Rattle.mr_first.specs.World.{Event, reopened, output_of, added_by, has_error}
+use Rattle.mr_first.specs.declared.commits.Commit.{Commit}
 use Rattle.myrocks.specs.Causes.{IsFull}
 use Rattle.myrocks.specs.Folder.{StandsFor}
 use Rattle.myrocks.specs.Opening.{IsDamagedAt}

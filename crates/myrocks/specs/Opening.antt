@@ -6,13 +6,13 @@ use Rattle.mr_base.specs.declared.stop.Stop.{Stop}
 use Rattle.mr_base.specs.declared.stop.Stop.TheVariants.{Memory, Disk, Full, Damaged}
 use Rattle.mr_gate.specs.Log.{records_from, end_from, is_damaged_from, span}
 use Rattle.mr_lists.specs.StandsFor.{StandsFor}
-use Rattle.mr_spec.specs.CommitForm.{read_commit}
-use Rattle.mr_spec.specs.Database.{replay, applied}
-use Rattle.mr_spec.specs.Lawful.{is_lawful_change, IsLawful}
-use Rattle.mr_spec.specs.LogCommits.{read_commits}
-use Rattle.mr_spec.specs.World.{last_moment}
-use Rattle.mr_spec.specs.declared.commits.Commit.{Commit}
-use Rattle.mr_spec.specs.declared.tables.Table.{Table}
+use Rattle.mr_first.specs.CommitForm.{read_commit}
+use Rattle.mr_first.specs.Database.{replay, applied}
+use Rattle.mr_first.specs.Lawful.{is_lawful_change, IsLawful}
+use Rattle.mr_first.specs.LogCommits.{read_commits}
+use Rattle.mr_first.specs.World.{last_moment}
+use Rattle.mr_first.specs.declared.commits.Commit.{Commit}
+use Rattle.mr_first.specs.declared.tables.Table.{Table}
 use Rattle.myrocks.specs.Folder.{Holds}
 use Rattle.myrocks.specs.declared.opening.Replayed.{Replayed}
 

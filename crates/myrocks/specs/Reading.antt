@@ -2,7 +2,7 @@
 use Rattle.std.specs.Prelude.{◌≡◌, ℕ, List, ◌++◌, length, Bool, IsTrue}
 use Rattle.mr_base.specs.Disk.{State}
 use Rattle.mr_base.specs.Source.{SourceState, ClockState}
-use Rattle.mr_spec.specs.ScriptRun.{statements_of}
+use Rattle.mr_first.specs.ScriptRun.{statements_of}
 use Rattle.myrocks.specs.Serving.{Serves}
 use Rattle.myrocks.specs.declared.server.Server.{Server}
 

@@ -5,12 +5,12 @@ use Rattle.mr_base.specs.Source.{ClockState}
 use Rattle.mr_gate.specs.Gate.{Gate, Stands as StandsOn}
 use Rattle.mr_lists.specs.StandsFor.{StandsFor as StandsForTables}
 use Rattle.std.specs.Option.{option_map_or}
-use Rattle.mr_spec.specs.Database.{replay, applied}
-use Rattle.mr_spec.specs.World.{World, trace, world_behind, has_error}
-use Rattle.mr_spec.specs.Valid.{is_valid_statement}
-use Rattle.mr_spec.specs.declared.commits.Change.{Change}
-use Rattle.mr_spec.specs.declared.statements.Statement.{Statement}
-use Rattle.mr_spec.specs.declared.tables.Table.{Table}
+use Rattle.mr_first.specs.Database.{replay, applied}
+use Rattle.mr_first.specs.World.{World, trace, world_behind, has_error}
+use Rattle.mr_first.specs.Valid.{is_valid_statement}
+use Rattle.mr_first.specs.declared.commits.Change.{Change}
+use Rattle.mr_first.specs.declared.statements.Statement.{Statement}
+use Rattle.mr_first.specs.declared.tables.Table.{Table}
 use Rattle.myrocks.specs.Settled.{Runs}
 use Rattle.myrocks.specs.declared.server.Server.{Server}
 

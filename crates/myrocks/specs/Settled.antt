@@ -2,10 +2,10 @@
 use Rattle.std.specs.Prelude.{◌≡◌, ◌⊎◌, ℕ, ◌+◌, ◌-◌, ◌^◌, min, List, ◌++◌, Bool, true}
 use Rattle.mr_base.specs.Disk.{State, Moment, Tells, MayLeave, IsAtRest, present, file_of}
 use Rattle.mr_base.specs.Calls.{During}
-use Rattle.mr_spec.specs.Replied.{replied}
-use Rattle.mr_spec.specs.ScriptRun.{IsWithin}
-use Rattle.mr_spec.specs.World.{Event, output_of, added_by}
-use Rattle.mr_spec.specs.declared.commits.Commit.{Commit}
+use Rattle.mr_first.specs.Replied.{replied}
+use Rattle.mr_first.specs.ScriptRun.{IsWithin}
+use Rattle.mr_first.specs.World.{Event, output_of, added_by}
+use Rattle.mr_first.specs.declared.commits.Commit.{Commit}
 use Rattle.myrocks.specs.Folder.{Holds}
 
 -- file 1 holds these commits and is at rest, and this is the output

@@ -2,7 +2,7 @@
 
 ghost use Rattle.std.specs.Prelude.{◌≡◌, ℕ, List, [], ◌∷◌, OnOk, IfErr, is_ok, true};
 ghost use Rattle.mr_base.specs.Disk.{State};
-ghost use Rattle.mr_spec.specs.CommitForm.{is_formed};
+ghost use Rattle.mr_first.specs.CommitForm.{is_formed};
 ghost use Rattle.myrocks.specs.Settled.{Appends};
 ghost use Rattle.myrocks.specs.Serving.{IsReady};
 ghost use Rattle.myrocks.specs.Causes.{GoesOn, IsCausedBy};
@@ -10,8 +10,8 @@ ghost use Rattle.myrocks.specs.Causes.{GoesOn, IsCausedBy};
 use crate::ending::Ending;
 use mr_base::Host;
 use mr_gate::GateLog;
-use mr_model::write_commit;
-use mr_spec::Commit;
+use mr_plain::write_commit;
+use mr_first::Commit;
 use std::alloc::Global;
 
 /// Adds a commit at the log's end. After an `Err` the log is closed, or nothing was written.

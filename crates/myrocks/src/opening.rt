@@ -5,10 +5,10 @@ ghost use Rattle.mr_base.specs.Disk.{Tells, IsAtRest, file_of, seen};
 ghost use Rattle.mr_base.specs.Calls.{During, Same};
 ghost use Rattle.mr_gate.specs.Gate.{IsDamage};
 ghost use Rattle.mr_lists.specs.StandsFor.{StandsFor};
-ghost use Rattle.mr_spec.specs.Lawful.{is_lawful_change};
-ghost use Rattle.mr_spec.specs.World.{reopened};
-ghost use Rattle.mr_spec.specs.declared.commits.Commit.{Commit};
-ghost use Rattle.mr_spec.specs.declared.tables.Table.{Table};
+ghost use Rattle.mr_first.specs.Lawful.{is_lawful_change};
+ghost use Rattle.mr_first.specs.World.{reopened};
+ghost use Rattle.mr_first.specs.declared.commits.Commit.{Commit};
+ghost use Rattle.mr_first.specs.declared.tables.Table.{Table};
 ghost use Rattle.myrocks.specs.Folder.{Holds, IsValid};
 ghost use Rattle.myrocks.specs.Opening.{judged, Replays, IsKept, IsOpeningCause};
 ghost use Rattle.myrocks.specs.Settled.{IsSettled};
@@ -19,8 +19,8 @@ use crate::server::Server;
 use mr_base::{Blob, Host, Memory, Stop};
 use mr_gate::GateLog;
 use mr_lists::Tables;
-use mr_model::read_commit;
-use mr_spec::Commit;
+use mr_plain::read_commit;
+use mr_first::Commit;
 use std::alloc::Global;
 
 /// The binary log is this file.

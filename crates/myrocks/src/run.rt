@@ -4,7 +4,7 @@ ghost use Rattle.std.specs.Prelude.{◌≡◌, ◌≢◌, ◌≤◌, ◌↔◌, 
 ghost use Rattle.mr_base.specs.Disk.{Tells, HasRisen, NothingPending, present, seen, file_of};
 ghost use Rattle.mr_base.specs.Calls.{Same};
 ghost use Rattle.mr_gate.specs.Log.{is_damaged_from};
-ghost use Rattle.mr_spec.specs.declared.commits.Commit.{Commit};
+ghost use Rattle.mr_first.specs.declared.commits.Commit.{Commit};
 ghost use Rattle.mr_words.specs.Form.{IsRunForm};
 ghost use Rattle.myrocks.specs.Folder.{StandsFor, IsValid};
 ghost use Rattle.myrocks.specs.Headline.{Headline, IsReported};

@@ -2,11 +2,11 @@
 
 ghost use Rattle.std.specs.Prelude.{◌≡◌, ℕ, List, [], ◌∷◌, Option, OnOk, IfOk, IfErr, IfSome, true, is_ok, ◌||◌};
 ghost use Rattle.mr_lists.specs.StandsFor.{StandsFor};
-ghost use Rattle.mr_spec.specs.Database.{replay};
-ghost use Rattle.mr_spec.specs.CommitForm.{is_formed_change};
-ghost use Rattle.mr_spec.specs.Lawful.{is_lawful_change};
-ghost use Rattle.mr_spec.specs.World.{World, commits_at, event_at, outcome_at, world_after, has_error, is_refusal as refusal_of};
-ghost use Rattle.mr_spec.specs.declared.tables.Table.{Table};
+ghost use Rattle.mr_first.specs.Database.{replay};
+ghost use Rattle.mr_first.specs.CommitForm.{is_formed_change};
+ghost use Rattle.mr_first.specs.Lawful.{is_lawful_change};
+ghost use Rattle.mr_first.specs.World.{World, commits_at, event_at, outcome_at, world_after, has_error, is_refusal as refusal_of};
+ghost use Rattle.mr_first.specs.declared.tables.Table.{Table};
 ghost use Rattle.myrocks.specs.Settled.{Appends, Runs};
 ghost use Rattle.myrocks.specs.Serving.{IsReady, IsServing, Stands, IsRead, after_change};
 ghost use Rattle.myrocks.specs.Causes.{GoesOn, IsCausedBy};
@@ -17,8 +17,8 @@ use crate::ending::Ending;
 use mr_base::{Host, Memory};
 use mr_gate::GateLog;
 use mr_lists::Tables;
-use mr_model::reply_text;
-use mr_spec::{Change, Commit, Outcome, Reply, Statement};
+use mr_plain::reply_text;
+use mr_first::{Change, Commit, Outcome, Reply, Statement};
 use std::alloc::Global;
 
 /// The tables, the log of their commits, the moment, whether some reply was an error, and how many replies are out.

@@ -1,17 +1,17 @@
 //! A script in pieces.
 
 ghost use Rattle.std.specs.Prelude.{◌≡◌, ℕ, List, [], ◌∷◌, Option, OnOk, IfErr, is_ok, map};
-ghost use Rattle.mr_spec.specs.Bytes.{trimmed, is_white as white_test};
-ghost use Rattle.mr_spec.specs.Cutting.{left_by, part_of, rest_of};
-ghost use Rattle.mr_spec.specs.ScriptRun.{statements_in, read_part};
+ghost use Rattle.mr_first.specs.Bytes.{trimmed, is_white as white_test};
+ghost use Rattle.mr_first.specs.Cutting.{left_by, part_of, rest_of};
+ghost use Rattle.mr_first.specs.ScriptRun.{statements_in, read_part};
 ghost use Rattle.myrocks.specs.Serving.{IsServing, IsRead, Serves};
 ghost use Rattle.myrocks.specs.Causes.{GoesOn, IsCausedBy};
 
 use crate::ending::Ending;
 use crate::server::Server;
 use mr_base::{Clock, Host};
-use mr_model::read_statement;
-use mr_spec::Statement;
+use mr_plain::read_statement;
+use mr_first::Statement;
 use std::alloc::Global;
 use std::mem;
 

@@ -2,7 +2,7 @@ use Rattle.std.proofs.Common.{ap, sym, ◌∙◌}
 use Rattle.std.proofs.lemmas.Bool.{false≢true}
 use Rattle.std.proofs.lemmas.Result.{on_ok_weaker}
 use Rattle.std.specs.Option.{option_map}
-use Rattle.mr_spec.specs.Lawful.{is_free_key}
+use Rattle.mr_first.specs.Lawful.{is_free_key}
 use Rattle.mr_lists.proofs.Entries.{stands_placed, free_from, table_of_is}
 use Rattle.mr_lists.specs.Listed.{named}
 use Rattle.mr_lists.proofs.by_name.insert.Goals as goal

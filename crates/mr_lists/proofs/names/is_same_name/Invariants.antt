@@ -1,6 +1,6 @@
 use Rattle.std.proofs.Common.{◌≡◌, map, nat_eq, drop, length}
 use Rattle.std.specs.Cmp.Lexicographic.{pointwise}
-use Rattle.mr_spec.specs.Bytes.{folded}
+use Rattle.mr_first.specs.Bytes.{folded}
 use Rattle.mr_lists.proofs.names.is_same_name.Given as goal
 
 abbrev pub invariant-loop-i : goal.invariant-loop-i

@@ -1,7 +1,7 @@
 use Rattle.std.proofs.Common.{◌≡◌, ◌≤◌, ◌^◌, ◌∷◌, [], ◌∙◌, ℕ, List, Bool, false, Err, ap, sym, subst, length, is_ok}
-use Rattle.mr_spec.specs.CommitForm.{read_commit}
-use Rattle.mr_spec.proofs.CommitLaws.{read_back}
-use Rattle.mr_spec.proofs.CommitLength.{commit_fits, commit_length}
+use Rattle.mr_first.specs.CommitForm.{read_commit}
+use Rattle.mr_first.proofs.CommitLaws.{read_back}
+use Rattle.mr_first.proofs.CommitLength.{commit_fits, commit_length}
 use Rattle.myrocks.specs.Settled.{Appends}
 use Rattle.myrocks.specs.Causes.{IsCausedBy}
 use Rattle.myrocks.specs.declared.ending.Ending.TheVariants.{Stopped}

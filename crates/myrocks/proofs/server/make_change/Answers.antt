@@ -1,5 +1,5 @@
 use Rattle.std.proofs.Common.{sym, subst, true, is_ok}
-use Rattle.mr_spec.specs.World.{commits_at}
+use Rattle.mr_first.specs.World.{commits_at}
 use Rattle.myrocks.specs.Settled.{Appends}
 use Rattle.myrocks.proofs.Appending.{appends_cut}
 use Rattle.myrocks.proofs.server.make_change.Goals as goal

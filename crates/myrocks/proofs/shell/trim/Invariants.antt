@@ -1,5 +1,5 @@
 use Rattle.std.proofs.Common.{◌≡◌, ◌-◌, drop, length, ◌≤◌}
-use Rattle.mr_spec.specs.Bytes.{trimmed}
+use Rattle.mr_first.specs.Bytes.{trimmed}
 use Rattle.myrocks.proofs.shell.trim.Given as goal
 
 abbrev pub invariant-loop-at : goal.invariant-loop-at

@@ -1,6 +1,6 @@
 use Rattle.std.proofs.Common.{◌∙◌}
 use Rattle.std.proofs.lemmas.Result.{on_ok_weaker}
-use Rattle.mr_spec.specs.Database.{applied}
+use Rattle.mr_first.specs.Database.{applied}
 use Rattle.mr_lists.specs.Listed.{tables_in}
 use Rattle.mr_lists.specs.StandsFor.{StandsFor}
 use Rattle.mr_lists.proofs.Standing.{stands_then, stands_applied, lawful_same}

@@ -1,9 +1,9 @@
 use Rattle.std.proofs.Common.{◌∙◌, [], ◌∷◌, ◌++◌, ap, true, max, subst, List}
 use Rattle.mr_base.proofs.Counting.{emit_tells}
 use Rattle.mr_lists.specs.StandsFor.{StandsFor}
-use Rattle.mr_spec.specs.Database.{replay}
-use Rattle.mr_spec.specs.World.{event_at, world_after}
-use Rattle.mr_spec.specs.declared.tables.Table.{Table}
+use Rattle.mr_first.specs.Database.{replay}
+use Rattle.mr_first.specs.World.{event_at, world_after}
+use Rattle.mr_first.specs.declared.tables.Table.{Table}
 use Rattle.myrocks.proofs.Appending.{goes_tells, ready_shown}
 use Rattle.myrocks.proofs.Events.{added_is, text_is, after_added, lawful_outcome, formed_outcome}
 use Rattle.myrocks.proofs.Running.{runs_nothing, runs_cut, runs_append, runs_shown, runs_done}

@@ -1,5 +1,5 @@
 use Rattle.std.proofs.Common.{◌∙◌, List, Option, subst, is_ok, sym, true, refl}
-use Rattle.mr_spec.specs.declared.statements.Statement.{Statement}
+use Rattle.mr_first.specs.declared.statements.Statement.{Statement}
 use Rattle.myrocks.specs.Serving.{Serves}
 use Rattle.myrocks.proofs.Served.{part_statement, read_is, blank_part, served_nothing, served_none}
 use Rattle.myrocks.proofs.server.Server.serve_part.Goals as goal

@@ -1,7 +1,7 @@
 use Rattle.std.proofs.Common.{◌∙◌, List, Option, subst, is_ok, ap, map, sym, refl, true}
-use Rattle.mr_spec.specs.declared.statements.Statement.{Statement}
-use Rattle.mr_spec.specs.Cutting.{part_of}
-use Rattle.mr_spec.specs.ScriptRun.{read_part}
+use Rattle.mr_first.specs.declared.statements.Statement.{Statement}
+use Rattle.mr_first.specs.Cutting.{part_of}
+use Rattle.mr_first.specs.ScriptRun.{read_part}
 use Rattle.myrocks.specs.Serving.{Serves}
 use Rattle.myrocks.proofs.Served.{at_semicolon, none_ended, served_none, served_nothing}
 use Rattle.myrocks.proofs.shell.Shell.feed.Goals as goal

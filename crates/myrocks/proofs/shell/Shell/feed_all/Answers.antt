@@ -1,8 +1,8 @@
 use Rattle.std.proofs.Common.{◌≡◌, ◌∙◌, ◌+◌, List, ℕ, [], ◌∷◌, ◌++◌, subst, is_ok, ap, sym, take, drop, true, arith, get_or, take_all, refl}
 use Rattle.std.proofs.lemmas.List.{take_more, take-append-drop}
-use Rattle.mr_spec.specs.Cutting.{left_by}
-use Rattle.mr_spec.specs.ScriptRun.{statements_in}
-use Rattle.mr_spec.proofs.Cut.{left_on}
+use Rattle.mr_first.specs.Cutting.{left_by}
+use Rattle.mr_first.specs.ScriptRun.{statements_in}
+use Rattle.mr_first.proofs.Cut.{left_on}
 use Rattle.myrocks.specs.Serving.{Serves}
 use Rattle.myrocks.proofs.Appending.{goes_nowhere, goes_then}
 use Rattle.myrocks.proofs.Served.{served_nothing, served_bytes, served_bytes_cut}

@@ -1,6 +1,6 @@
 use Rattle.std.proofs.Common.{◌≡◌, take, true}
-use Rattle.mr_spec.specs.Cutting.{left_by}
-use Rattle.mr_spec.specs.ScriptRun.{statements_in}
+use Rattle.mr_first.specs.Cutting.{left_by}
+use Rattle.mr_first.specs.ScriptRun.{statements_in}
 use Rattle.myrocks.specs.Causes.{GoesOn}
 use Rattle.myrocks.specs.Serving.{IsServing, Serves}
 use Rattle.myrocks.proofs.shell.Shell.feed_all.Given as goal

@@ -1,5 +1,5 @@
 use Rattle.std.proofs.Common.{◌∙◌, List, Option, subst, is_ok, sym, true}
-use Rattle.mr_spec.specs.declared.statements.Statement.{Statement}
+use Rattle.mr_first.specs.declared.statements.Statement.{Statement}
 use Rattle.myrocks.specs.Serving.{Serves}
 use Rattle.myrocks.proofs.Served.{rest_statement, blank_rest, served_nothing}
 use Rattle.myrocks.proofs.shell.Shell.finish.Goals as goal
