@@ -1,0 +1,16 @@
+pub mod Written
+pub mod Conditions
+pub mod Traces
+pub mod WorkedRows
+pub mod MoreRows
+pub mod RowsWithConditions
+pub mod Runs
+pub mod Results
+pub mod Commits
+pub mod Refused
+pub mod Leaving
+pub mod Colliding
+pub mod RowSizes
+pub mod Binds
+pub mod LawfulRows
+pub mod Others
