@@ -1,5 +1,5 @@
 -- The definition that a CREATE TABLE or a further key gives, or its first refusal.
-use Rattle.std.specs.Prelude.{ℕ, List, [], Some, None, Result, Ok}
+use Rattle.std.specs.Prelude.{true, ℕ, List, [], Some, None, Result, Ok}
 use Rattle.std.specs.Option.{option_map_or}
 use Rattle.mr_types.specs.declared.definition.IndexDef.{IndexDef}
 use Rattle.mr_types.specs.declared.definition.TableDef.{TableDef}
@@ -27,4 +27,4 @@ check text = do
 
 -- a further key of a table, where these names are taken too
 abbrev pub check_key : TableDef → List (List ℕ) → KeyText → Result IndexDef ℕ
-check_key def taken k = checked_key def.columns (record { primary = Some def.primary; secondary = def.secondary }) taken k
+check_key def taken k = checked_key def.columns true def.secondary taken k

@@ -36,14 +36,20 @@ default_kept ty (Some v) = do
   d ← refused_as 1067 (assign_to ty v)
   Ok (Some d)
 
--- one more column: 1060 where its name is used, 1074 where it is too long, 1067 where its default doesn't fit
-abbrev pub with_column : List KeyText → List ColumnDef → ColumnText → Result (List ColumnDef) ℕ
-with_column keys before c = do
+-- a column behind others: 1060 where its name is used, 1074 where it is too long, 1067 where its default doesn't fit
+abbrev pub checked_column : List KeyText → List ColumnDef → ColumnText → Result ColumnDef ℕ
+checked_column keys before c = do
   refuse_where 1060 (is_some (place_from 0 c.name before))
   kind ← some_or 1074 (kind_of c.kind)
   let ty : ColumnType = record { kind = kind; nullable = c.nullable && not (is_primary_column keys c.name) }
   default ← default_kept ty c.default
-  Ok (before ++ record { name = c.name; ty = ty; default = default } ∷ [])
+  Ok (record { name = c.name; ty = ty; default = default })
+
+-- these columns, and one more
+abbrev pub with_column : List KeyText → List ColumnDef → ColumnText → Result (List ColumnDef) ℕ
+with_column keys before c = do
+  d ← checked_column keys before c
+  Ok (before ++ d ∷ [])
 
 -- the columns in the order of the text; 1117 where they are more than 64
 abbrev pub checked_columns : TableText → Result (List ColumnDef) ℕ

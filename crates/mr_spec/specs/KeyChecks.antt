@@ -42,14 +42,18 @@ pub record Keys : Type 0 where
   pub primary : Option IndexDef
   pub secondary : List IndexDef
 
--- A key over these columns, beside these keys; `taken` are further names in use. 1069: more than 16 secondary keys; 1061: its
+-- the name is PRIMARY, or one of these, or that of a key
+abbrev pub is_taken : List ℕ → List (List ℕ) → List IndexDef → Bool
+is_taken name taken keys = same_name name (codes "PRIMARY") || (list_any (same_name name) taken || list_any (λ d. same_name name d.name) keys)
+
+-- A key over these columns, beside a primary key or none and these secondary keys; `taken` are further names in use. 1069: more than 16 secondary keys; 1061: its
 -- name is used, or is PRIMARY; 1068: a second primary key; 1070: more than 16 parts; 1072: a column that isn't there; 1060: a
 -- column twice; 1071: more than 767 bytes; 1064: a comment of more than 1,024 bytes, or the name of the engine's own family.
-abbrev pub checked_key : List ColumnDef → Keys → List (List ℕ) → KeyText → Result IndexDef ℕ
-checked_key columns keys taken k = do
-  refuse_where 1069 (not k.primary && nat_le 16 (length keys.secondary))
-  refuse_where 1061 (not k.primary && list_any (same_name k.name) (codes "PRIMARY" ∷ taken ++ map (λ d. d.name) keys.secondary))
-  refuse_where 1068 (k.primary && is_some keys.primary)
+abbrev pub checked_key : List ColumnDef → Bool → List IndexDef → List (List ℕ) → KeyText → Result IndexDef ℕ
+checked_key columns has_primary secondary taken k = do
+  refuse_where 1069 (not k.primary && nat_le 16 (length secondary))
+  refuse_where 1061 (not k.primary && is_taken k.name taken secondary)
+  refuse_where 1068 (k.primary && has_primary)
   refuse_where 1070 (nat_lt 16 (length k.columns))
   places ← places_of columns k.columns
   refuse_where 1060 (has_repeat places)
@@ -60,7 +64,7 @@ checked_key columns keys taken k = do
 -- these keys, and one more
 abbrev pub with_key : List ColumnDef → Keys → KeyText → Result Keys ℕ
 with_key columns keys k = do
-  d ← checked_key columns keys [] k
+  d ← checked_key columns (is_some keys.primary) keys.secondary [] k
   Ok (if k.primary then record keys { primary = Some d } else record keys { secondary = keys.secondary ++ d ∷ [] })
 
 -- the primary key of a table without one: the hidden number

@@ -1,15 +1,18 @@
 -- The options in a table's comment: how long its rows live, and the column that holds their stamp.
-use Rattle.std.specs.Prelude.{ℕ, ◌^◌, Bool, true, false, not, ◌&&◌, nat_lt, ◌==◌, if◌then◌else◌, List, [], ◌∷◌, ◌++◌, length, Option, Some, None, is_some, Result, Ok, slice_get, codes}
-use Rattle.std.specs.List.{list_all}
+use Rattle.std.specs.Prelude.{ℕ, ℤ, pos, negsuc, ◌^◌, Bool, true, false, not, ◌&&◌, nat_lt, ◌==◌, if◌then◌else◌, List, [], ◌∷◌, ◌++◌, length, Option, Some, None, is_some, Result, Ok, Err, slice_get, codes}
 use Rattle.std.specs.Option.{option_map_or}
 use Rattle.mr_types.specs.declared.kind.Kind.{Kind}
 use Rattle.mr_types.specs.declared.kind.Kind.TheVariants.{BigIntUnsigned}
 use Rattle.mr_types.specs.declared.definition.ColumnDef.{ColumnDef}
 use Rattle.mr_types.specs.declared.definition.Ttl.{Ttl}
 use Rattle.mr_types.specs.Refusals.{◌>>=◌, ◌>>◌, refuse_where, some_or, in_turn}
-use Rattle.mr_types.specs.Values.{number_from, is_digit}
-use Rattle.mr_spec.specs.declared.options.CommentOptions.{CommentOptions}
+use Rattle.mr_types.specs.Values.{whole_number}
 use Rattle.mr_spec.specs.Rows.{place_from}
+
+-- what a comment says: `ttl_duration=N` and `ttl_col=c`
+pub record Options : Type 0 where
+  pub duration : Option ℕ
+  pub column : Option (List ℕ)
 
 -- the parts of a text at each `;`, where `front` stands in front
 abbrev pub parts_from : List ℕ → List ℕ → List (List ℕ)
@@ -22,40 +25,44 @@ behind [] text = Some text
 behind (a ∷ front) [] = None
 behind (a ∷ front) (b ∷ text) = if a == b then behind front text else None
 
--- decimal digits, at least one, as many as there are
-abbrev pub digits_value : List ℕ → Option ℕ
-digits_value [] = None
-digits_value (b ∷ bs) = if list_all is_digit (b ∷ bs) then Some (number_from 0 (b ∷ bs)) else None
+-- digits without the zeros in front
+abbrev pub without_zeros : List ℕ → List ℕ
+without_zeros [] = []
+without_zeros (b ∷ bs) = if b == 48 then without_zeros bs else b ∷ bs
 
--- from 1 to 2^63 - 1, else 1064
+-- from 1 to 2^63 - 1
+abbrev pub duration_in : ℤ → Result ℕ ℕ
+duration_in (pos n) = refuse_where 1064 (not (nat_lt 0 n && nat_lt n (2 ^ 63))) >> Ok n
+duration_in (negsuc n) = Err 1064
+
+-- decimal digits, with zeros in front or not, that write a number from 1 to 2^63 - 1, else 1064
 abbrev pub duration_of : List ℕ → Result ℕ ℕ
 duration_of digits = do
-  n ← some_or 1064 (digits_value digits)
-  refuse_where 1064 (not (nat_lt 0 n && nat_lt n (2 ^ 63)))
-  Ok n
+  n ← some_or 1064 (whole_number (without_zeros digits))
+  duration_in n
 
 -- a duration, which stands once
-abbrev pub with_duration : CommentOptions → List ℕ → Result CommentOptions ℕ
+abbrev pub with_duration : Options → List ℕ → Result Options ℕ
 with_duration o digits = do
   refuse_where 1064 (is_some o.duration)
   n ← duration_of digits
   Ok (record o { duration = Some n })
 
 -- a column, which stands once
-abbrev pub with_stamp_column : CommentOptions → List ℕ → Result CommentOptions ℕ
+abbrev pub with_stamp_column : Options → List ℕ → Result Options ℕ
 with_stamp_column o name = refuse_where 1064 (is_some o.column) >> Ok (record o { column = Some name })
 
 -- a part is a duration, else a column, else it has no meaning
-abbrev pub with_part : CommentOptions → List ℕ → Result CommentOptions ℕ
+abbrev pub with_part : Options → List ℕ → Result Options ℕ
 with_part o part = option_map_or (with_duration o) (behind (codes "ttl_duration=") part)
     (option_map_or (with_stamp_column o) (behind (codes "ttl_col=") part) (Ok o))
 
 -- a column without a duration is 1064
-abbrev pub whole_options : CommentOptions → Result CommentOptions ℕ
+abbrev pub whole_options : Options → Result Options ℕ
 whole_options o = refuse_where 1064 (is_some o.column && not (is_some o.duration)) >> Ok o
 
 -- the options of a comment, or 1064
-abbrev pub options_of : List ℕ → Result CommentOptions ℕ
+abbrev pub options_of : List ℕ → Result Options ℕ
 options_of comment = do
   o ← in_turn with_part (record { duration = None; column = None }) (parts_from [] comment)
   whole_options o

@@ -4,7 +4,6 @@
 
 mod bound;
 mod laws;
-mod options;
 mod truth;
 
 pub use bound::{Bound, BoundList};
@@ -13,5 +12,4 @@ pub use laws::{
     refusals_leave_the_world, replay_is_what_is_seen, same_values_collide, snapshots_stay,
     work_moves_the_moment_alone,
 };
-pub use options::CommentOptions;
 pub use truth::Truth;
