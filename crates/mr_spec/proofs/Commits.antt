@@ -1,5 +1,7 @@
 -- Each step keeps the commits, and adds some behind them.
 use Rattle.std.proofs.Common.{◌≡◌, ℕ, Bool, List, [], ◌∷◌, ◌++◌, Option, Some, None, Result, Ok, Err, IfOk, refl, ap, sym, ◌∙◌, append_assoc, append-nil}
+use Rattle.mr_spec.specs.declared.world.Table.{Table}
+use Rattle.mr_spec.specs.declared.world.Txn.{Txn}
 use Rattle.mr_types.specs.declared.row.Commit.{Commit}
 use Rattle.mr_types.specs.declared.row.Change.{Change}
 use Rattle.mr_types.specs.declared.text.KeyText.{KeyText}
@@ -9,10 +11,10 @@ use Rattle.mr_types.specs.declared.statement.Select.{Select}
 use Rattle.mr_types.specs.declared.statement.Statement.{Statement}
 use Rattle.mr_types.specs.declared.statement.Statement.TheVariants as statement
 use Rattle.mr_spec.specs.Truth.{Where, where_of}
-use Rattle.mr_spec.specs.Database.{Table, table_of, replay}
+use Rattle.mr_spec.specs.Database.{table_of, replay}
 use Rattle.mr_spec.specs.Progress.{Scene, Progress, Refusal}
 use Rattle.mr_spec.specs.Changes.{insert_changes, replace_changes, update_changes, delete_changes}
-use Rattle.mr_spec.specs.World.{World, Txn, with_rows, committed, kept_in, changes_by, entered, is_stale}
+use Rattle.mr_spec.specs.World.{World, with_rows, committed, kept_in, changes_by, entered, is_stale}
 use Rattle.mr_spec.specs.Outcome.{Outcome, answered}
 use Rattle.mr_spec.specs.RowSteps.{on_rows, select_answer, select_outcome, write_outcome, written, after_rows}
 use Rattle.mr_spec.specs.SchemaSteps.{create_table, drop_table, with_begun, begin_index, finish_index, cancel_index, create_index, drop_index, lock_tables}

@@ -4,15 +4,18 @@ use Rattle.std.specs.Prelude.{if◌then◌else◌, ◌==◌}
 use Rattle.std.proofs.Common.{IfOk}
 use Rattle.mr_spec.specs.Promises.{others_in, moved, SameOthers, IsOfOne}
 use Rattle.mr_spec.proofs.Results.{bound, behind}
+use Rattle.mr_spec.specs.declared.world.Session.{Session}
+use Rattle.mr_spec.specs.declared.world.Table.{Table}
+use Rattle.mr_spec.specs.declared.world.Txn.{Txn}
 use Rattle.mr_types.specs.declared.row.Change.{Change}
 use Rattle.mr_types.specs.declared.definition.IndexDef.{IndexDef}
 use Rattle.mr_types.specs.declared.row.Schema.TheVariants as schema
 use Rattle.mr_spec.specs.Rows.{visible}
 use Rattle.mr_spec.specs.Truth.{Where, where_of}
-use Rattle.mr_spec.specs.Database.{Table, table_of, replay}
+use Rattle.mr_spec.specs.Database.{table_of, replay}
 use Rattle.mr_spec.specs.Progress.{Scene, Progress, Refusal}
 use Rattle.mr_spec.specs.Changes.{insert_changes, replace_changes, update_changes, delete_changes}
-use Rattle.mr_spec.specs.World.{World, Session, Txn, entered, is_stale, kept_in, with_rows, with_number, with_building, changes_by, committed, rolled_back}
+use Rattle.mr_spec.specs.World.{World, entered, is_stale, kept_in, with_rows, with_number, with_building, changes_by, committed, rolled_back}
 use Rattle.mr_spec.specs.Outcome.{Outcome, done, refused, answered}
 use Rattle.mr_spec.specs.RowSteps.{on_rows, select_answer, select_outcome, scene_of, start_of, written, write_outcome, not_too_heavy, after_rows}
 use Rattle.mr_spec.specs.SchemaSteps.{create_table, dropped, drop_table, free_for_key, published, has_duplicate, with_schema_change, with_begun, begin_index, finish_index, cancel_index, create_index, drop_index, lock_tables}

@@ -1,5 +1,6 @@
 -- What a refused statement leaves.
 use Rattle.std.proofs.Common.{◌≡◌, ℕ, Bool, true, false, List, Option, Some, None, Result, Ok, Err, IfOk, refl}
+use Rattle.mr_spec.specs.declared.world.Table.{Table}
 use Rattle.mr_types.specs.declared.text.KeyText.{KeyText}
 use Rattle.mr_types.specs.declared.definition.IndexDef.{IndexDef}
 use Rattle.mr_types.specs.declared.text.TableText.{TableText}
@@ -8,7 +9,7 @@ use Rattle.mr_types.specs.declared.statement.Select.{Select}
 use Rattle.mr_types.specs.declared.statement.Statement.{Statement}
 use Rattle.mr_types.specs.declared.statement.Statement.TheVariants as statement
 use Rattle.mr_spec.specs.Truth.{Where, where_of}
-use Rattle.mr_spec.specs.Database.{Table, table_of, replay}
+use Rattle.mr_spec.specs.Database.{table_of, replay}
 use Rattle.mr_spec.specs.Progress.{Scene, Progress, Refusal}
 use Rattle.mr_spec.specs.Changes.{insert_changes, replace_changes, update_changes, delete_changes}
 use Rattle.mr_spec.specs.World.{World, entered, is_stale, with_building}

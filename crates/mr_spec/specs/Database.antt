@@ -1,5 +1,6 @@
 -- Tables as lists of rows, and what commits make of them.
 use Rattle.std.specs.Prelude.{ℕ, Bool, false, not, if◌then◌else◌, List, [], ◌∷◌, ◌++◌, map, filter, find, Option}
+use Rattle.mr_spec.specs.declared.world.Table.{Table}
 use Rattle.mr_types.specs.declared.definition.TableDef.{TableDef}
 use Rattle.mr_types.specs.declared.row.Row.{Row}
 use Rattle.mr_types.specs.declared.row.Change.{Change}
@@ -11,11 +12,6 @@ use Rattle.mr_types.specs.declared.row.Commit.{Commit}
 use Rattle.mr_types.specs.Values.{same_bytes}
 use Rattle.mr_spec.specs.Rows.{rows_after, table_name}
 use Rattle.mr_spec.specs.KeyChecks.{is_named}
-
--- a definition and its rows in primary-key order
-pub record Table : Type 0 where
-  pub def : TableDef
-  pub rows : List Row
 
 -- the table's name, byte for byte
 abbrev pub is_table : List ℕ → Table → Bool

@@ -3,6 +3,7 @@ use Rattle.std.specs.Prelude.{◌≡◌, ◌≤◌, ℕ, Bool, true, false, not,
 use Rattle.std.specs.List.{list_any, list_all, zip}
 use Rattle.std.specs.Option.{option_map_or, option_eq}
 use Rattle.mr_lanes.specs.Kernels.{is_low}
+use Rattle.mr_spec.specs.declared.world.Table.{Table}
 use Rattle.mr_types.specs.declared.value.Value.{Value}
 use Rattle.mr_types.specs.declared.value.Value.TheVariants.{Null, Number, Text, Bytes}
 use Rattle.mr_types.specs.declared.definition.ColumnDef.{ColumnDef}
@@ -21,7 +22,7 @@ use Rattle.mr_types.specs.declared.row.Commit.{Commit}
 use Rattle.mr_types.specs.Values.{assign_to, is_equal}
 use Rattle.mr_spec.specs.Rows.{same_primary, is_visible, visible, table_name}
 use Rattle.mr_spec.specs.Checks.{check, check_key}
-use Rattle.mr_spec.specs.Database.{Table, table_of, changed, with_body}
+use Rattle.mr_spec.specs.Database.{table_of, changed, with_body}
 use Rattle.mr_spec.specs.NewRows.{has_hidden_key, stamp_for}
 use Rattle.mr_spec.specs.KeyChecks.{is_named}
 use Rattle.mr_spec.specs.Weight.{total_weight}

@@ -1,6 +1,8 @@
 -- What follows from the definitions, as contracts say it.
 use Rattle.std.specs.Prelude.{◌≡◌, ◌≤◌, ℕ, true, false, List, [], ◌∷◌, ◌++◌, length, Some, None, Result, Ok, Err, ⊤}
 use Rattle.std.specs.List.{list_any}
+use Rattle.mr_spec.specs.declared.world.Session.{Session}
+use Rattle.mr_spec.specs.declared.world.Txn.{Txn}
 use Rattle.mr_types.specs.declared.definition.IndexDef.{IndexDef}
 use Rattle.mr_types.specs.declared.definition.TableDef.{TableDef}
 use Rattle.mr_types.specs.declared.row.Row.{Row}
@@ -12,7 +14,7 @@ use Rattle.mr_types.specs.Order.{IsSame}
 use Rattle.mr_spec.specs.Rows.{kind_at, value_at, has_null, same_unique}
 use Rattle.mr_spec.specs.Database.{on_table}
 use Rattle.mr_spec.specs.Claims.{has_claim_in}
-use Rattle.mr_spec.specs.World.{World, Session, Txn, view_of, held_changes, has_used, entered, with_number, with_building, rolled_back}
+use Rattle.mr_spec.specs.World.{World, view_of, held_changes, has_used, entered, with_number, with_building, rolled_back}
 use Rattle.mr_spec.specs.Outcome.{Outcome}
 use Rattle.mr_spec.specs.Step.{step, begun, timed}
 use Rattle.mr_spec.specs.ScriptRun.{world_after, is_refusal}

@@ -1,6 +1,7 @@
 -- Statements on the rows of a table.
 use Rattle.std.specs.Prelude.{ℕ, nat_lt, ◌==◌, if◌then◌else◌, List, [], ◌++◌, Option, Some, None, Result, Ok, Err}
 use Rattle.std.specs.Option.{option_map_or}
+use Rattle.mr_spec.specs.declared.world.Table.{Table}
 use Rattle.mr_types.specs.declared.row.Row.{Row}
 use Rattle.mr_types.specs.declared.row.Reply.TheVariants as reply
 use Rattle.mr_types.specs.declared.statement.Select.{Select}
@@ -9,7 +10,7 @@ use Rattle.mr_spec.specs.Rows.{visible}
 use Rattle.mr_spec.specs.Truth.{Where}
 use Rattle.mr_spec.specs.Select.{select_tests, selected}
 use Rattle.mr_spec.specs.Weight.{total_weight}
-use Rattle.mr_spec.specs.Database.{Table, table_of, replay, changes_of, on_table}
+use Rattle.mr_spec.specs.Database.{table_of, replay, changes_of, on_table}
 use Rattle.mr_spec.specs.Claims.{has_claim_in}
 use Rattle.mr_spec.specs.Progress.{Scene, Progress, Refusal, told}
 use Rattle.mr_spec.specs.World.{World, view_of, later_commits, is_stale, held_changes, changes_by, rolled_back, keeping, entered, with_number}

@@ -3,6 +3,7 @@ use Rattle.std.specs.Prelude.{ℕ, Bool, false, not, ◌||◌, if◌then◌else�
 use Rattle.std.specs.List.{list_any}
 use Rattle.std.specs.Prelude.{find}
 use Rattle.std.specs.Option.{option_map_or}
+use Rattle.mr_spec.specs.declared.world.Table.{Table}
 use Rattle.mr_types.specs.declared.definition.IndexDef.{IndexDef}
 use Rattle.mr_types.specs.declared.definition.TableDef.{TableDef}
 use Rattle.mr_types.specs.declared.text.KeyText.{KeyText}
@@ -17,7 +18,7 @@ use Rattle.mr_types.specs.Values.{same_name}
 use Rattle.mr_spec.specs.Rows.{visible, same_unique}
 use Rattle.mr_spec.specs.KeyChecks.{is_named}
 use Rattle.mr_spec.specs.Checks.{check, check_key}
-use Rattle.mr_spec.specs.Database.{Table, table_of, replay}
+use Rattle.mr_spec.specs.Database.{table_of, replay}
 use Rattle.mr_spec.specs.World.{World, has_used, with_commit, with_number, with_building}
 use Rattle.mr_spec.specs.Outcome.{Outcome, refused, done}
 

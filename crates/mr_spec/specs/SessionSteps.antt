@@ -1,9 +1,11 @@
 -- Statements on transactions and sessions.
 use Rattle.std.specs.Prelude.{ℕ, Bool, not, ◌&&◌, nat_le, if◌then◌else◌, List, [], ◌∷◌, ◌++◌, length, take, filter, find, Option, Some, None, Result, Ok, Err}
 use Rattle.std.specs.List.{list_any}
+use Rattle.mr_spec.specs.declared.world.Savepoint.{Savepoint}
+use Rattle.mr_spec.specs.declared.world.Txn.{Txn}
 use Rattle.mr_types.specs.Refusals.{◌>>=◌, ◌>>◌, refuse_where, some_or}
 use Rattle.mr_types.specs.Values.{same_name}
-use Rattle.mr_spec.specs.World.{World, Txn, Savepoint, with_txn, is_session, turned_to}
+use Rattle.mr_spec.specs.World.{World, with_txn, is_session, turned_to}
 use Rattle.mr_spec.specs.Outcome.{Outcome, done}
 
 -- a transaction that begins; WITH CONSISTENT SNAPSHOT fixes its snapshot at once

@@ -1,12 +1,13 @@
 -- How heavy a change is.
 use Rattle.std.specs.Prelude.{ℕ, ◌+◌, ◌*◌, sum_by, length, Option, Some, None, List, [], ◌∷◌}
 use Rattle.std.specs.Option.{option_map_or}
+use Rattle.mr_spec.specs.declared.world.Table.{Table}
 use Rattle.mr_types.specs.declared.value.Value.{Value}
 use Rattle.mr_types.specs.declared.value.Value.TheVariants.{Null, Number, Text, Bytes}
 use Rattle.mr_types.specs.declared.row.Row.{Row}
 use Rattle.mr_types.specs.declared.row.Change.{Change}
 use Rattle.mr_spec.specs.Rows.{rows_of, table_name}
-use Rattle.mr_spec.specs.Database.{Table, table_of}
+use Rattle.mr_spec.specs.Database.{table_of}
 
 -- the bytes of a number that is there
 abbrev pub given_size : Option ℕ → ℕ

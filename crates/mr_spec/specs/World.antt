@@ -2,30 +2,17 @@
 use Rattle.std.specs.Prelude.{ℕ, Bool, false, not, if◌then◌else◌, List, [], ◌∷◌, ◌++◌, length, take, drop, filter, find, Option, Some, None, unwrap_or}
 use Rattle.std.specs.List.{list_any, flat_map}
 use Rattle.std.specs.Option.{option_map_or, option_map}
+use Rattle.mr_spec.specs.declared.world.Savepoint.{Savepoint}
+use Rattle.mr_spec.specs.declared.world.Session.{Session}
+use Rattle.mr_spec.specs.declared.world.Table.{Table}
+use Rattle.mr_spec.specs.declared.world.Txn.{Txn}
 use Rattle.mr_types.specs.declared.definition.IndexDef.{IndexDef}
 use Rattle.mr_types.specs.declared.row.Change.{Change}
 use Rattle.mr_types.specs.declared.row.Commit.{Commit}
 use Rattle.mr_types.specs.declared.row.CommitBody.{CommitBody}
 use Rattle.mr_types.specs.declared.row.CommitBody.TheVariants as body
 use Rattle.mr_types.specs.Values.{same_bytes, same_name}
-use Rattle.mr_spec.specs.Database.{Table, with_changes, replay, defines}
-
--- a savepoint keeps the changes that were made before it
-pub record Savepoint : Type 0 where
-  pub name : List ℕ
-  pub kept : ℕ
-
--- an open transaction: the number of commits that it sees, once that is fixed, its changes, savepoints and tables used
-pub record Txn : Type 0 where
-  pub snapshot : Option ℕ
-  pub changes : List Change
-  pub savepoints : List Savepoint
-  pub used : List (List ℕ)
-
--- a session: its name, and its transaction where one is open
-pub record Session : Type 0 where
-  pub name : List ℕ
-  pub txn : Option Txn
+use Rattle.mr_spec.specs.Database.{with_changes, replay, defines}
 
 -- `here` is the current session, and `others` the other open ones. By a table's name: the index that is building, and the
 -- next hidden number.

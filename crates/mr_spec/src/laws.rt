@@ -1,6 +1,7 @@
 //! What follows from the definitions, for callers to cite.
 
 ghost use Rattle.std.specs.Prelude.{◌≡◌, ℕ, true, List, None, Result, Ok, ◌++◌};
+ghost use Rattle.mr_spec.specs.declared.world.Session.{Session};
 ghost use Rattle.mr_types.specs.declared.definition.IndexDef.{IndexDef};
 ghost use Rattle.mr_types.specs.declared.definition.TableDef.{TableDef};
 ghost use Rattle.mr_types.specs.declared.expr.Expr.{Expr};
@@ -11,7 +12,7 @@ ghost use Rattle.mr_types.specs.declared.statement.Statement.TheVariants as stat
 ghost use Rattle.mr_spec.specs.Truth.{truth_of};
 ghost use Rattle.mr_spec.specs.Binding.{bound_of, bound_truth};
 ghost use Rattle.mr_spec.specs.Database.{replay};
-ghost use Rattle.mr_spec.specs.World.{World, Session, view_of};
+ghost use Rattle.mr_spec.specs.World.{World, view_of};
 ghost use Rattle.mr_spec.specs.Replay.{reopened};
 ghost use Rattle.mr_spec.specs.Outcome.{done};
 ghost use Rattle.mr_spec.specs.Step.{step, outcome_of, timed};

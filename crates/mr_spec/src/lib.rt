@@ -5,6 +5,7 @@
 mod bound;
 mod laws;
 mod truth;
+mod world;
 
 pub use bound::{Bound, BoundList};
 pub use laws::{
@@ -13,3 +14,4 @@ pub use laws::{
     work_moves_the_moment_alone,
 };
 pub use truth::Truth;
+pub use world::{RowList, Savepoint, Session, SessionList, Table, TableList, Txn};
