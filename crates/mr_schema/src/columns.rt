@@ -5,7 +5,7 @@ ghost use Rattle.std.specs.List.{list_any};
 ghost use Rattle.mr_types.specs.Values.{Answers};
 ghost use Rattle.mr_spec.specs.ColumnChecks.{kind_of as kind_written, is_primary_column as names_primary, default_kept as default_of, checked_column, checked_columns};
 
-use crate::names::{is_among, place_of};
+use crate::names::{is_among, place_in};
 use mr_types::{
     ColumnDef, ColumnList, ColumnText, ColumnType, KeyText, Kind, KindText, Refused, TableText,
     Value, assign,
@@ -71,7 +71,7 @@ fn column_of(
     ensures { Answers result (checked_column keys.now before.now column.now) }
 {
     let name = column.name.as_slice();
-    if place_of(before, name).is_some() {
+    if place_in(before, name).is_some() {
         return Err(Refused::Sql(1060));
     }
     let Some(kind) = kind_of(column.kind) else {

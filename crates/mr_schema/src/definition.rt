@@ -8,7 +8,7 @@ ghost use Rattle.mr_schema.specs.Said.{said};
 
 use crate::columns::columns_of;
 use crate::keys::{Keys, key_of, key_or_hidden, keys_of};
-use crate::names::place_of;
+use crate::names::place_in;
 use crate::options::CommentOptions;
 use mr_base::Blob;
 use mr_types::{ColumnDef, IndexDef, KeyText, Kind, Refused, TableDef, TableText, Ttl};
@@ -28,7 +28,7 @@ fn stamp_column(columns: &[ColumnDef], name: &[u8]) -> Result<u8, Refused>
     requires few { length columns.now ≤ 64 }
     ensures { Answers result (column_for_stamp columns.now name.now) }
 {
-    let Some(place) = place_of(columns, name) else {
+    let Some(place) = place_in(columns, name) else {
         return Err(Refused::Sql(1054));
     };
     match columns.get(place) {

@@ -9,7 +9,7 @@ ghost use Rattle.mr_types.specs.Refusals.{in_turn};
 ghost use Rattle.mr_schema.specs.Widths.{width_at as width_of_place};
 ghost use Rattle.mr_schema.specs.Said.{said_keys, SaysKeys, no_keys};
 
-use crate::names::{is_among, is_same_name, place_of};
+use crate::names::{is_among, is_same_name, place_in};
 use mr_base::Blob;
 use mr_types::{ColumnDef, IndexDef, IndexList, KeyText, Kind, Refused};
 use std::alloc::{AllocError, Global};
@@ -90,7 +90,7 @@ fn places_of(alloc: Global, columns: &[ColumnDef], names: &[Blob]) -> Result<Blo
 {
     let mut places = Vec::new(alloc);
     for name in names {
-        let Some(place) = place_of(columns, name.as_slice()) else {
+        let Some(place) = place_in(columns, name.as_slice()) else {
             return Err(Refused::Sql(1072));
         };
         match places.push(place as u8) {

@@ -8,6 +8,7 @@ mod names;
 mod options;
 
 pub use definition::{check, check_key, check_key_beside};
+pub use names::{is_same_name, place_in};
 pub use options::CommentOptions;
 
 #[cfg(test)]

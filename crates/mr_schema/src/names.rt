@@ -10,7 +10,7 @@ use mr_lanes::upper_of;
 use mr_types::ColumnDef;
 
 /// Whether the two are the same without regard to case.
-pub(crate) fn is_same_name(a: &[u8], b: &[u8]) -> bool
+pub fn is_same_name(a: &[u8], b: &[u8]) -> bool
     ensures { result ≡ same_name a.now b.now }
 {
     if a.len() != b.len() {
@@ -34,7 +34,7 @@ pub(crate) fn is_among(names: &[Blob], name: &[u8]) -> bool
 }
 
 /// The place of the column of this name, None where there is none.
-pub(crate) fn place_of(columns: &[ColumnDef], name: &[u8]) -> Option<usize>
+pub fn place_in(columns: &[ColumnDef], name: &[u8]) -> Option<usize>
     ensures is { result ≡ place_from 0 name.now columns.now }
     ensures within { IfSome result (λ place. place < length columns.now) }
 {
