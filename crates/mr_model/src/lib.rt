@@ -2,10 +2,13 @@
 //! It is slow, and there for whoever doubts an answer of the engine.
 #![tactic(auto)]
 
+mod claims;
 mod database;
 mod rows;
+mod truth;
 mod values;
 
+pub use claims::{has_claim_in, share_claim};
 pub use database::{
     copy_table, copy_tables, defines, is_table, replay, table_name, table_of, with_changes,
 };
