@@ -1,9 +1,9 @@
 -- A text that is emitted in pieces.
-use Rattle.std.proofs.Common.{◌≡◌, ℕ, ◌+◌, ◌-◌, ◌≤◌, ◌<◌, min, List, [], ◌++◌, length, take, drop, refl, ap, sym, ◌∙◌, arith, append_assoc, append-nil, length-drop, take_all, inl, inr}
+use Rattle.std.proofs.Common.{◌≡◌, ℕ, ◌+◌, ◌-◌, min, List, [], ◌++◌, length, take, drop, refl, ap, sym, ◌∙◌, arith, append_assoc, append-nil, length-drop, take_all, inl, inr}
 use Rattle.std.proofs.Math.Seq.{take-add}
 use Rattle.std.proofs.lemmas.List.{take-take, length-take}
 use Rattle.std.proofs.lemmas.Bool.{cases_lt}
-use Rattle.mr_base.specs.Disk.{State, Moment, present}
+use Rattle.mr_base.specs.Disk.{State, present}
 use Rattle.mr_base.specs.Calls.{During, IsShown, Emits, EmitCounts}
 use Rattle.mr_base.proofs.Moments.{started, goes_on, at_end}
 

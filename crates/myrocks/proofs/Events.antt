@@ -1,5 +1,5 @@
 -- One statement, as the event that it is in a world.
-use Rattle.std.proofs.Common.{◌≡◌, ℕ, List, [], ◌∷◌, ◌++◌, max, Option, Some, None, IfSome, refl, ap, sym, ◌∙◌, true, append-nil, subst}
+use Rattle.std.proofs.Common.{◌≡◌, ℕ, List, ◌++◌, max, Option, Some, None, IfSome, ap, sym, ◌∙◌, true, append-nil, subst}
 use Rattle.mr_first.specs.CommitForm.{is_formed_change}
 use Rattle.mr_first.specs.Database.{replay}
 use Rattle.mr_first.specs.Lawful.{is_lawful_change}

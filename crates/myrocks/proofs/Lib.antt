@@ -1,9 +1,15 @@
 pub mod Causes
+pub mod Rooms
+pub mod Early
 pub mod Running
 pub mod Emitted
+pub mod Blanks
 pub mod Served
+pub mod Taking
+pub mod Parts
 pub mod Appending
 pub mod Events
 pub mod Offences
 pub mod Replaying
 pub mod Whole
+pub mod Concluding

@@ -1,6 +1,6 @@
 -- From a log that was opened to the commits that it holds.
 use Rattle.std.proofs.Common.{◌≡◌, ◌⊎◌, ℕ, ◌+◌, ◌^◌, Bool, IsTrue, Option, List, [], ◌∷◌, ◌++◌, length, Some, None, refl, ap, sym, ◌∙◌, inl, inr, subst, arith, true, false, append_assoc, append-nil}
-use Rattle.mr_base.specs.Disk.{State, Moment, Tells, MayLeave, IsAtRest, HasRisen, present, file_of}
+use Rattle.mr_base.specs.Disk.{State, Moment, Tells, IsAtRest, HasRisen, present, file_of}
 use Rattle.mr_base.specs.declared.stop.Stop.{Stop}
 use Rattle.mr_base.specs.declared.stop.Stop.TheVariants.{Memory, Disk, Full, Damaged}
 use Rattle.mr_base.specs.Calls.{During, OneFile, Same, Rises}

@@ -1,5 +1,5 @@
 -- One event at a host, and several.
-use Rattle.std.proofs.Common.{◌≡◌, ℕ, ◌+◌, ◌-◌, ◌^◌, ◌≤◌, ◌<◌, min, List, [], ◌∷◌, ◌++◌, length, take, drop, refl, ap, sym, ◌∙◌, inl, inr, subst, arith, append_assoc, append-nil, Bool, true, false, IsTrue, Result, Ok, Err, IsErr, IsErrAnd, IfErr, is_ok, OnOk}
+use Rattle.std.proofs.Common.{◌≡◌, ℕ, ◌+◌, ◌-◌, ◌^◌, ◌<◌, min, List, [], ◌∷◌, ◌++◌, length, take, drop, refl, ap, sym, ◌∙◌, inl, inr, subst, arith, append_assoc, append-nil, Option, Some, None, Result, IsErrAnd}
 use Rattle.std.proofs.lemmas.List.{append_cancel_left, take-append-drop}
 use Rattle.mr_base.specs.Disk.{State, Moment, Tells, MayLeave, present, file_of}
 use Rattle.mr_base.specs.Calls.{During, IsShown}
@@ -9,24 +9,16 @@ use Rattle.mr_first.specs.Replied.{replied}
 use Rattle.mr_first.specs.ScriptRun.{IsWithin}
 use Rattle.mr_first.specs.World.{Event, output_of, added_by}
 use Rattle.mr_first.specs.declared.commits.Commit.{Commit}
-use Rattle.mr_first.proofs.Events.{output_on, added_on, within_start, within_left, within_right, within_reply, within_added}
+use Rattle.mr_first.proofs.Events.{output_on, added_on, text_some, within_start, within_left, within_right, within_reply, within_added}
 use Rattle.mr_first.proofs.Replied.{replied_none, replied_behind, replied_all, replied_more, replied_front}
 use Rattle.myrocks.specs.Emitting.{IsCutShort}
 use Rattle.myrocks.specs.Folder.{Holds}
-use Rattle.myrocks.specs.Settled.{IsSettled, IsFront, IsInside, counted, RunsFrom, Runs, IsAppending, AppendsFrom, Appends}
-
-pub not_ok : {T E : Type 0} (r : Result T E) → IsErr r → is_ok r ≡ false
-not_ok (Ok x) h = sym h
-not_ok (Err e) h = refl
-
-pub on_ok : {T E : Type 0} (P : Type 0) (r : Result T E) → OnOk r P → is_ok r ≡ true → P
-on_ok P (Ok x) h e = h
-on_ok P (Err x) h e = cc
-
--- what is known of the error that an answer carries is known of the answer
-pub err_is : {T E : Type 0} (r : Result T E) (e : E) (P : E → Type 0) → IsErrAnd r (λ x. x ≡ e) → P e → IfErr r P
-err_is (Ok x) e P h p = tt
-err_is (Err x) e P h p = subst P (sym h) p
+use Rattle.myrocks.specs.Room.{log_length, HasRoom}
+use Rattle.myrocks.specs.Settled.{early, IsSettled, IsFront, IsInside, IsPast, counted, Runs, IsAppending, Appends}
+use Rattle.myrocks.specs.declared.ending.Ending.{Ending}
+use Rattle.myrocks.specs.declared.ending.Ending.TheVariants.{EmitFault}
+use Rattle.myrocks.proofs.Rooms.{log_on, room_on}
+use Rattle.myrocks.proofs.Early.{early_is, not_none, Cuts, due_right, unfinished_right, unfinished_none, cut_full, cut_unfinished}
 
 nothing_shown : (before now shown : List ℕ) → now ≡ before → now ≡ before ++ shown → shown ≡ []
 nothing_shown before now shown same more = sym (append_cancel_left before [] shown (append-nil before ∙ sym same ∙ more))
@@ -73,55 +65,77 @@ inside_right es more commits output m here = record {
   left = λ bytes may. let x = here.left bytes may in (x.0, x.1, within_right es more commits x.0 output m.output x.2);
 }
 
+-- ---- several events
+
 -- nothing is done
-pub runs_nothing : (s : State) (n : ℕ) → Runs s s n n [] true
+pub runs_nothing : (s : State) (n : ℕ) → Runs s s n n [] None
 runs_nothing s n tells commits output settled = record {
-  moments = started s _ (settled_inside [] s commits output settled);
-  settled = λ _. record { log = subst (λ (c : List Commit). Holds c (file_of s 1).bytes) (sym (append-nil commits)) settled.log; at_rest = settled.at_rest; emitted = settled.emitted ∙ sym (append-nil output) };
-  replies = λ shown more. omega arith;
-  tells = tells;
+  runs = record {
+    moments = started s _ (settled_inside [] s commits output settled);
+    settled = λ _. record { log = subst (λ (c : List Commit). Holds c (file_of s 1).bytes) (sym (append-nil commits)) settled.log; at_rest = settled.at_rest; emitted = settled.emitted ∙ sym (append-nil output) };
+    room = λ _. tt;
+    full = λ what at limit q. cc;
+    replies = λ shown more. omega arith;
+    tells = tells;
+  };
+  unfinished = tt;
 }
 
 counted_on : (a b c l r : ℕ) → counted b ≡ counted (a + l) → counted c ≡ counted (b + r) → counted c ≡ counted (a + (l + r))
 counted_on a b c l r first second = omega (arith, first, second)
 
 -- events, and then more of them
-pub runs_on : (a b c : State) (n0 n1 n2 : ℕ) (es more : List Event) (done : Bool) → Runs a b n0 n1 es true → Runs b c n1 n2 more done → Runs a c n0 n2 (es ++ more) done
-runs_on a b c n0 n1 n2 es more done first second tells commits output settled =
-    let f = first tells commits output settled in
+pub runs_on : (a b c : State) (n0 n1 n2 : ℕ) (es more : List Event) (ending : Option Ending) → Runs a b n0 n1 es None → Runs b c n1 n2 more ending → Runs a c n0 n2 (es ++ more) ending
+runs_on a b c n0 n1 n2 es more ending first second tells commits output settled =
+    let f = (first tells commits output settled).runs in
     let mid = f.settled refl in
-    let t = second f.tells (commits ++ added_by es) (output ++ output_of es) mid in
+    let y = second f.tells (commits ++ added_by es) (output ++ output_of es) mid in
+    let t = y.runs in
     record {
-      moments = goes_on a b c _ _ (weaker a b _ _ (λ m. inside_left es more commits output m) f.moments) t.moments (λ m. inside_right es more commits output m);
-      settled = λ d. let e = t.settled d in record {
-        log = subst (λ (x : List Commit). Holds x (file_of c 1).bytes) (append_assoc commits (added_by es) (added_by more) ∙ ap (λ x. commits ++ x) (sym (added_on es more))) e.log;
-        at_rest = e.at_rest;
-        emitted = e.emitted ∙ append_assoc output (output_of es) (output_of more) ∙ ap (λ x. output ++ x) (sym (output_on es more));
+      runs = record {
+        moments = goes_on a b c _ _ (weaker a b _ _ (λ m. inside_left es more commits output m) f.moments) t.moments (λ m. inside_right es more commits output m);
+        settled = λ d. let e = t.settled d in record {
+          log = subst (λ (x : List Commit). Holds x (file_of c 1).bytes) (append_assoc commits (added_by es) (added_by more) ∙ ap (λ x. commits ++ x) (sym (added_on es more))) e.log;
+          at_rest = e.at_rest;
+          emitted = e.emitted ∙ append_assoc output (output_of es) (output_of more) ∙ ap (λ x. output ++ x) (sym (output_on es more));
+        };
+        room = λ d. subst (λ x. HasRoom (log_length commits) x) (sym (added_on es more)) (room_on (log_length commits) (added_by es) (added_by more) (log_length (commits ++ added_by es)) (f.room refl) (log_on commits (added_by es)) (t.room d));
+        full = λ what at limit q. due_right es more commits output c what at limit (f.room refl) (t.full what at limit q);
+        replies = λ shown is.
+            let now = (at_end b c _ t.moments).shown in
+            let same : shown ≡ output_of es ++ now.shown = append_cancel_left output shown (output_of es ++ now.shown) (sym is ∙ now.output ∙ append_assoc output (output_of es) now.shown) in
+            let count : replied (es ++ more) shown ≡ length es + replied more now.shown = ap (replied (es ++ more)) same ∙ replied_behind es more now.shown in
+            let one : counted n1 ≡ counted (n0 + length es) = f.replies (output_of es) mid.emitted ∙ ap (λ x. counted (n0 + x)) (replied_all es) in
+            counted_on n0 n1 n2 (length es) (replied more now.shown) one (t.replies now.shown now.output) ∙ ap (λ x. counted (n0 + x)) (sym count);
+        tells = t.tells;
       };
-      replies = λ shown is.
-          let now = (at_end b c _ t.moments).shown in
-          let same : shown ≡ output_of es ++ now.shown = append_cancel_left output shown (output_of es ++ now.shown) (sym is ∙ now.output ∙ append_assoc output (output_of es) now.shown) in
-          let count : replied (es ++ more) shown ≡ length es + replied more now.shown = ap (replied (es ++ more)) same ∙ replied_behind es more now.shown in
-          let one : counted n1 ≡ counted (n0 + length es) = f.replies (output_of es) mid.emitted ∙ ap (λ x. counted (n0 + x)) (replied_all es) in
-          counted_on n0 n1 n2 (length es) (replied more now.shown) one (t.replies now.shown now.output) ∙ ap (λ x. counted (n0 + x)) (sym count);
-      tells = t.tells;
+      unfinished = unfinished_right ending es more output (present c).output y.unfinished;
     }
 
 -- events of a longer list, up to an error
-pub runs_cut : {T E : Type 0} (a b : State) (n0 n1 : ℕ) (es more : List Event) (done : Bool) (r : Result T E) → IsErr r → Runs a b n0 n1 es done → Runs a b n0 n1 (es ++ more) (is_ok r)
-runs_cut a b n0 n1 es more done r err first tells commits output settled =
-    let f = first tells commits output settled in
-    let no = not_ok r err in
+pub runs_cut : (a b : State) (n0 n1 : ℕ) (es more : List Event) (ending : Option Ending) (e : Ending) → Cuts ending e → Runs a b n0 n1 es ending → Runs a b n0 n1 (es ++ more) (Some e)
+runs_cut a b n0 n1 es more ending e cuts first tells commits output settled =
+    let x = first tells commits output settled in
+    let f = x.runs in
     record {
-      moments = weaker a b _ _ (λ m. inside_left es more commits output m) f.moments;
-      settled = λ e. cc;
-      replies = λ shown is.
-          let now = (at_end a b _ f.moments).shown in
-          let same : shown ≡ now.shown = append_cancel_left output shown now.shown (sym is ∙ now.output) in
-          let count : replied (es ++ more) shown ≡ replied es shown = replied_more es more shown now.unshown (now.front ∙ ap (λ x. x ++ now.unshown) (sym same)) in
-          f.replies shown is ∙ ap (λ x. counted (n0 + x)) (sym count);
-      tells = f.tells;
+      runs = record {
+        moments = weaker a b _ _ (λ m. inside_left es more commits output m) f.moments;
+        settled = λ q. absurd (not_none e q);
+        room = λ q. absurd (not_none e q);
+        full = cut_full ending e es more commits output b cuts f.full;
+        replies = λ shown is.
+            let now = (at_end a b _ f.moments).shown in
+            let same : shown ≡ now.shown = append_cancel_left output shown now.shown (sym is ∙ now.output) in
+            let count : replied (es ++ more) shown ≡ replied es shown = replied_more es more shown now.unshown (now.front ∙ ap (λ x. x ++ now.unshown) (sym same)) in
+            f.replies shown is ∙ ap (λ x. counted (n0 + x)) (sym count);
+        tells = f.tells;
+      };
+      unfinished = cut_unfinished ending e es more output (present b).output cuts x.unfinished;
     }
+
+-- of an answer that carries the error
+pub runs_early : {T : Type 0} (a b : State) (n0 n1 : ℕ) (es : List Event) (r : Result T Ending) (e : Ending) → IsErrAnd r (λ x. x ≡ e) → Runs a b n0 n1 es (Some e) → Runs a b n0 n1 es (early r)
+runs_early a b n0 n1 es r e h runs = subst (λ o. Runs a b n0 n1 es o) (early_is r e h) runs
 
 -- ---- one event
 
@@ -156,44 +170,62 @@ counted_none : (n k : ℕ) → k ≡ 0 → counted n ≡ counted (n + k)
 counted_none n k none = omega (arith, none)
 
 -- an exit before anything is emitted
-pub runs_append : {T E : Type 0} (a b : State) (n : ℕ) (e : Event) (added : List Commit) (done : Bool) (r : Result T E) → IsErr r → added ≡ e.added → (Tells a → Tells b) → Appends a b added done → Runs a b n n (e ∷ []) (is_ok r)
-runs_append a b n e added done r err same keeps appends tells commits output settled =
-    let no = not_ok r err in
+pub runs_append : (a b : State) (n : ℕ) (event : Event) (added : List Commit) (e : Ending) → added ≡ event.added → (Tells a → Tells b) → Appends a b added (Some e) → Runs a b n n (event ∷ []) (Some e)
+runs_append a b n event added e same keeps appends tells commits output settled =
     let x = appends tells commits output settled in
-    let moments : During a b (IsInside (e ∷ []) commits output) = weaker a b _ _ (appending_inside e added commits output same) x.moments in
+    let last = (at_end a b _ x.moments).emitted in
+    let cs : commits ++ [] ≡ commits = append-nil commits in
     record {
-      moments = moments;
-      settled = λ q. cc;
-      replies = λ shown is.
-          let none : shown ≡ [] = nothing_shown output (present b).output shown (at_end a b _ x.moments).emitted is in
-          counted_none n (replied (e ∷ []) shown) (ap (replied (e ∷ [])) none ∙ replied_none (e ∷ []));
-      tells = keeps tells;
+      runs = record {
+        moments = weaker a b _ _ (appending_inside event added commits output same) x.moments;
+        settled = λ q. absurd (not_none e q);
+        room = λ q. absurd (not_none e q);
+        full = λ what at limit q. record {
+          first = [];
+          next = event;
+          others = [];
+          split = refl;
+          room = tt;
+          here = subst (λ c. IsPast b c event.added (output ++ []) what at limit) (sym (append-nil commits))
+              (subst (λ o. IsPast b commits event.added o what at limit) (sym (append-nil output)) (subst (λ y. IsPast b commits y output what at limit) same (x.full what at limit q)));
+        };
+        replies = λ shown is.
+            let none : shown ≡ [] = nothing_shown output (present b).output shown last is in
+            counted_none n (replied (event ∷ []) shown) (ap (replied (event ∷ [])) none ∙ replied_none (event ∷ []));
+        tells = keeps tells;
+      };
+      unfinished = unfinished_none e event output (present b).output 0 (last ∙ sym (append-nil output)) (text_some event.reply);
     }
 
 -- an exit while the reply is emitted
-pub runs_shown : {T E : Type 0} (a b c : State) (n : ℕ) (e : Event) (added : List Commit) (text : List ℕ) (r : Result T E) → IsErr r → added ≡ e.added → text ≡ text_of e.reply → (Tells a → Tells b) → (Tells b → Tells c) → Appends a b added true
-    → (Tells b → During b c (IsShown text (present b))) → (Tells b → IsCutShort text (present b).output (present c).output) → Runs a c n n (e ∷ []) (is_ok r)
-runs_shown a b c n e added text r err same shows keeps goes appends shown cut tells commits output settled =
-    let no = not_ok r err in
+pub runs_shown : (a b c : State) (n : ℕ) (event : Event) (added : List Commit) (text : List ℕ) → added ≡ event.added → text ≡ text_of event.reply → (Tells a → Tells b) → (Tells b → Tells c) → Appends a b added None
+    → (Tells b → During b c (IsShown text (present b))) → (Tells b → IsCutShort text (present b).output (present c).output) → Runs a c n n (event ∷ []) (Some EmitFault)
+runs_shown a b c n event added text same shows keeps goes appends shown cut tells commits output settled =
     let x = appends tells commits output settled in
-    let mid : IsSettled b (commits ++ e.added) output = subst (λ (y : List Commit). IsSettled b (commits ++ y) output) same (x.settled refl) in
+    let mid : IsSettled b (commits ++ event.added) output = subst (λ (y : List Commit). IsSettled b (commits ++ y) output) same (x.settled refl) in
     let short = cut (keeps tells) in
+    let less : short.count < length (text_of event.reply) = subst (λ (z : List ℕ). short.count < length z) shows short.less in
+    let is_now : (present c).output ≡ output ++ take short.count (text_of event.reply) = short.output ∙ ap (λ z. z ++ take short.count text) mid.emitted ∙ ap (λ z. output ++ take short.count z) shows in
     record {
-      moments = goes_on a b c _ _ (weaker a b _ _ (appending_inside e added commits output same) x.moments) (shown (keeps tells)) (shown_inside e text b commits output shows mid);
-      settled = λ q. cc;
-      replies = λ out is.
-          let front : out ≡ take short.count (text_of e.reply) = append_cancel_left output out (take short.count (text_of e.reply)) (sym is ∙ short.output ∙ ap (λ z. z ++ take short.count text) mid.emitted ∙ ap (λ z. output ++ take short.count z) shows) in
-          let less : short.count < length (text_of e.reply) = subst (λ (z : List ℕ). short.count < length z) shows short.less in
-          counted_none n (replied (e ∷ []) out) (ap (replied (e ∷ [])) front ∙ replied_front e [] short.count less);
-      tells = goes (keeps tells);
+      runs = record {
+        moments = goes_on a b c _ _ (weaker a b _ _ (appending_inside event added commits output same) x.moments) (shown (keeps tells)) (shown_inside event text b commits output shows mid);
+        settled = λ q. absurd (not_none EmitFault q);
+        room = λ q. absurd (not_none EmitFault q);
+        full = λ what at limit q. cc;
+        replies = λ out is.
+            let front : out ≡ take short.count (text_of event.reply) = append_cancel_left output out (take short.count (text_of event.reply)) (sym is ∙ is_now) in
+            counted_none n (replied (event ∷ []) out) (ap (replied (event ∷ [])) front ∙ replied_front event [] short.count less);
+        tells = goes (keeps tells);
+      };
+      unfinished = unfinished_none EmitFault event output (present c).output short.count is_now less;
     }
 
 counted_one : (n m k : ℕ) → m ≡ min (n + 1) (2 ^ 64 - 1) → k ≡ 1 → counted m ≡ counted (n + k)
 counted_one n m k is one = omega (arith, is, one)
 
 -- the commits are there, and the whole reply is out
-pub runs_done : (a b c : State) (n m : ℕ) (e : Event) (added : List Commit) (text : List ℕ) → added ≡ e.added → text ≡ text_of e.reply → (Tells a → Tells b) → (Tells b → Tells c) → m ≡ min (n + 1) (2 ^ 64 - 1) → Appends a b added true
-    → (Tells b → During b c (IsShown text (present b))) → (Tells b → (present c).output ≡ (present b).output ++ text) → Runs a c n m (e ∷ []) true
+pub runs_done : (a b c : State) (n m : ℕ) (e : Event) (added : List Commit) (text : List ℕ) → added ≡ e.added → text ≡ text_of e.reply → (Tells a → Tells b) → (Tells b → Tells c) → m ≡ min (n + 1) (2 ^ 64 - 1) → Appends a b added None
+    → (Tells b → During b c (IsShown text (present b))) → (Tells b → (present c).output ≡ (present b).output ++ text) → Runs a c n m (e ∷ []) None
 runs_done a b c n m e added text same shows keeps goes count appends shown whole tells commits output settled =
     let x = appends tells commits output settled in
     let mid : IsSettled b (commits ++ e.added) output = subst (λ (y : List Commit). IsSettled b (commits ++ y) output) same (x.settled refl) in
@@ -201,14 +233,19 @@ runs_done a b c n m e added text same shows keeps goes count appends shown whole
     let files = (at_end b c _ during).files 1 in
     let out : (present c).output ≡ output ++ (text_of e.reply ++ []) = whole (keeps tells) ∙ ap (λ z. z ++ text) mid.emitted ∙ ap (λ z. output ++ z) (shows ∙ sym (append-nil (text_of e.reply))) in
     record {
-      moments = goes_on a b c _ _ (weaker a b _ _ (appending_inside e added commits output same) x.moments) during (shown_inside e text b commits output shows mid);
-      settled = λ _. record {
-        log = subst (λ f. Holds (commits ++ (e.added ++ [])) f.bytes) (sym files) (subst (λ (y : List Commit). Holds (commits ++ y) (file_of b 1).bytes) (sym (append-nil e.added)) mid.log);
-        at_rest = subst (λ f. (d : List ℕ) → MayLeave f d → d ≡ f.bytes) (sym files) mid.at_rest;
-        emitted = out;
+      runs = record {
+        moments = goes_on a b c _ _ (weaker a b _ _ (appending_inside e added commits output same) x.moments) during (shown_inside e text b commits output shows mid);
+        settled = λ _. record {
+          log = subst (λ f. Holds (commits ++ (e.added ++ [])) f.bytes) (sym files) (subst (λ (y : List Commit). Holds (commits ++ y) (file_of b 1).bytes) (sym (append-nil e.added)) mid.log);
+          at_rest = subst (λ f. (d : List ℕ) → MayLeave f d → d ≡ f.bytes) (sym files) mid.at_rest;
+          emitted = out;
+        };
+        room = λ _. subst (λ (y : List Commit). HasRoom (log_length commits) y) (same ∙ sym (append-nil e.added)) (x.room refl);
+        full = λ what at limit q. cc;
+        replies = λ shown is.
+            let front : shown ≡ output_of (e ∷ []) = append_cancel_left output shown (output_of (e ∷ [])) (sym is ∙ out) in
+            counted_one n m (replied (e ∷ []) shown) count (ap (replied (e ∷ [])) front ∙ replied_all (e ∷ []));
+        tells = goes (keeps tells);
       };
-      replies = λ shown is.
-          let front : shown ≡ output_of (e ∷ []) = append_cancel_left output shown (output_of (e ∷ [])) (sym is ∙ out) in
-          counted_one n m (replied (e ∷ []) shown) count (ap (replied (e ∷ [])) front ∙ replied_all (e ∷ []));
-      tells = goes (keeps tells);
+      unfinished = tt;
     }

@@ -1,35 +1,34 @@
 -- From an opening and the statements served after it to a whole run.
-use Rattle.std.proofs.Common.{◌≡◌, ℕ, ◌+◌, ◌-◌, ◌^◌, ◌<◌, min, List, [], ◌∷◌, ◌++◌, length, Some, None, Option, refl, ap, ap₂, sym, ◌∙◌, inl, inr, subst, arith, append_assoc, append-nil, Bool, true, false, cond, IsTrue, ◌||◌, Result, Ok, Err, IsErr, is_ok}
+use Rattle.std.proofs.Common.{◌≡◌, ℕ, ◌+◌, ◌<◌, List, [], Some, None, Option, refl, ap, ap₂, sym, ◌∙◌, inl, inr, subst, arith, append-nil, Bool, true, false, cond, ◌||◌, Result, Ok, Err, IsErrAnd}
 use Rattle.std.proofs.lemmas.List.{append_cancel_left}
 use mathlib.Core.Bool.{true≢false}
-use Rattle.mr_base.specs.Disk.{State, Moment, Image, Tells, Leaves, MayLeave, NothingPending, present, seen, file_of}
+use Rattle.mr_base.specs.Disk.{State, Moment, Image, Tells, NothingPending, present, seen, file_of}
 use Rattle.mr_base.specs.Calls.{During, Same}
 use Rattle.mr_base.specs.Source.{SourceState, ClockState}
 use Rattle.mr_base.specs.declared.stop.Stop.{Stop}
 use Rattle.mr_base.specs.declared.stop.Stop.TheVariants.{Memory, Disk, Full, Damaged}
+use Rattle.mr_base.specs.declared.stop.FullKind.{FullKind}
 use Rattle.mr_base.proofs.Moments.{weaker, goes_on, at_end}
 use Rattle.mr_gate.specs.Log.{records_from, is_damaged_from}
 use Rattle.mr_gate.specs.Gate.{IsDamage}
 use Rattle.mr_first.specs.Replied.{replied}
 use Rattle.mr_first.specs.ScriptRun.{IsWithin, run_of}
-use Rattle.mr_first.specs.World.{Event, reopened, output_of, added_by, has_error}
+use Rattle.mr_first.specs.World.{Event, reopened, output_of, has_error}
 use Rattle.mr_first.specs.declared.commits.Commit.{Commit}
 use Rattle.mr_first.proofs.Events.{within_start}
-use Rattle.mr_first.proofs.LawfulEvents.{run_lawful, run_all_lawful}
 use Rattle.mr_first.proofs.Replied.{replied_none}
 use Rattle.myrocks.specs.Ended.{RunsWhole, AnswersError, IsRunCause, KeepsDamaged, status}
 use Rattle.myrocks.specs.Folder.{Holds, StandsFor, IsValid}
-use Rattle.myrocks.specs.Headline.{Headline, IsComplete, IsCrashPrefix, IsReported, end_status}
 use Rattle.myrocks.specs.Causes.{IsScriptCause}
 use Rattle.myrocks.specs.Opening.{IsKept, IsDamagedAt, IsOpeningCause}
-use Rattle.myrocks.specs.Reading.{ServesScript}
-use Rattle.myrocks.specs.Settled.{IsSettled, IsInside, IsFront, RunsFrom, counted}
+use Rattle.myrocks.specs.Reading.{ServesScript, IsPart, run_of_taken}
+use Rattle.myrocks.specs.Settled.{IsSettled, IsInside, RunsFrom, counted}
 use Rattle.myrocks.specs.Serving.{Stands}
 use Rattle.myrocks.specs.declared.ending.Ending.{Ending}
 use Rattle.myrocks.specs.declared.ending.Ending.TheVariants.{Stopped, EmitFault, SourceFault, TooLong}
 use Rattle.myrocks.specs.declared.server.Server.{Server}
 use Rattle.myrocks.proofs.Offences.{lawful_none}
-use Rattle.myrocks.proofs.Running.{not_ok}
+use Rattle.myrocks.proofs.Early.{early_is, not_none}
 
 -- a host at rest whose folder stands for commits is settled
 pub settled_at_rest : (s : State) (commits : List Commit) → StandsFor (seen s) commits → NothingPending (present s) → IsSettled s commits (present s).output
@@ -42,144 +41,93 @@ kept_inside events commits output m here = record {
   left = λ bytes may. (commits, here.left bytes may, subst (λ (o : List ℕ). IsWithin events commits output commits o) (sym here.emitted) (within_start events commits output));
 }
 
--- the opening ended the run
-pub opened_only : {T E : Type 0} (old mid : State) (n : ℕ) (events : List Event) (commits : List Commit) (output : List ℕ) (r : Result T E) → IsErr r → n ≡ 0 → Tells mid → During old mid (IsKept commits output) → RunsFrom old mid 0 n events (is_ok r) commits output
-opened_only old mid n events commits output r err none tells during =
-    let failed = not_ok r err in
-    record {
-      moments = weaker old mid _ _ (kept_inside events commits output) during;
-      settled = λ d. cc;
-      replies = λ shown is.
-          let nothing : shown ≡ [] = sym (append_cancel_left output [] shown (append-nil output ∙ sym (at_end old mid _ during).emitted ∙ is)) in
-          let count : replied events shown ≡ 0 = ap (replied events) nothing ∙ replied_none events in
-          omega (arith, none, count);
-      tells = tells;
-    }
+answers_any : (r : Result Bool Ending) (e : Ending) (error : Bool) → IsErrAnd r (λ x. x ≡ e) → AnswersError r error
+answers_any (Ok x) e error err = absurd err
+answers_any (Err d) e error err = tt
 
--- the opening, and then the statements
-pub opened_first : (old mid new : State) (n : ℕ) (events : List Event) (done : Bool) (commits : List Commit) (output : List ℕ) → During old mid (IsKept commits output) → RunsFrom mid new 0 n events done commits output → RunsFrom old new 0 n events done commits output
-opened_first old mid new n events done commits output during runs = record {
+-- no opening answers that a log is full
+not_full : (old mid : State) (stop : Stop) (what : FullKind) (at limit : ℕ) → IsOpeningCause old mid stop → stop ≡ Full what at limit → ⊥
+not_full old mid stop what at limit cause is = subst (λ s. IsOpeningCause old mid s) is cause
+
+-- the opening ended the run
+opened_only : (old mid : State) (n : ℕ) (events : List Event) (commits : List Commit) (output : List ℕ) (stop : Stop) → IsOpeningCause old mid stop → n ≡ 0 → Tells mid → During old mid (IsKept commits output) → RunsFrom old mid 0 n events (Some (Stopped stop)) commits output
+opened_only old mid n events commits output stop cause none tells during = record {
+  moments = weaker old mid _ _ (kept_inside events commits output) during;
+  settled = λ d. cc;
+  room = λ d. cc;
+  full = λ what at limit q. absurd (not_full old mid stop what at limit cause (cc));
+  replies = λ shown is.
+      let nothing : shown ≡ [] = sym (append_cancel_left output [] shown (append-nil output ∙ sym (at_end old mid _ during).emitted ∙ is)) in
+      let count : replied events shown ≡ 0 = ap (replied events) nothing ∙ replied_none events in
+      omega (arith, none, count);
+  tells = tells;
+}
+
+-- the opening, and then the statements of a server that had no replies yet
+opened_first : (old mid new : State) (m n : ℕ) (events : List Event) (ending : Option Ending) (commits : List Commit) (output : List ℕ) → m ≡ 0 → During old mid (IsKept commits output) → RunsFrom mid new m n events ending commits output → RunsFrom old new 0 n events ending commits output
+opened_first old mid new m n events ending commits output none during runs = record {
   moments = goes_on old mid new _ _ (weaker old mid _ _ (kept_inside events commits output) during) runs.moments (λ m here. here);
   settled = runs.settled;
-  replies = runs.replies;
+  room = runs.room;
+  full = runs.full;
+  replies = λ shown is. runs.replies shown is ∙ ap (λ k. counted (k + replied events shown)) none;
   tells = runs.tells;
 }
 
-pub answers_any : (r : Result Bool Ending) (error : Bool) → IsErr r → AnswersError r error
-answers_any (Ok x) error err = absurd (true≢false (sym err))
-answers_any (Err e) error err = tt
+-- the opening failed: nothing was taken from the script
+pub run_unopened : (source : SourceState) (taken : ℕ) (clock : ClockState) (old mid : State) (n : ℕ) (result : Result Bool Ending) (stop : Stop) (commits : List Commit) → IsErrAnd result (λ e. e ≡ Stopped stop) → IsOpeningCause old mid stop → taken ≡ 0 → n ≡ 0 → Tells mid
+    → During old mid (IsKept commits (present old).output) → RunsWhole source taken clock old mid n result commits
+run_unopened source taken clock old mid n result stop commits err cause nothing none tells during =
+    let same = early_is result (Stopped stop) err in
+    record {
+      script = source.left;
+      script_told = λ t. refl;
+      enough = omega (arith, nothing);
+      all_taken = λ q. absurd (not_none (Stopped stop) (same ∙ q));
+      clock = clock.values;
+      clock_told = λ t k. refl;
+      runs = subst (λ o. RunsFrom old mid 0 n (run_of source.left clock.values (reopened commits)) o commits (present old).output) same (opened_only old mid n (run_of source.left clock.values (reopened commits)) commits (present old).output stop cause none tells during);
+      part = subst (λ o. IsPart o taken (run_of_taken taken source.left clock.values (reopened commits)) commits (present old).output mid) same (λ more. absurd (omega (arith, more, nothing)));
+      error = answers_any result (Stopped stop) (has_error (run_of source.left clock.values (reopened commits))) err;
+    }
 
--- the parts of a run that was cut short
-pub run_cut : (source : SourceState) (clock_old clock_new : ClockState) (old mid new : State) (server server_new : Server) (done : Bool) (result : Result Bool Ending) (commits : List Commit) → IsErr result → server.replies ≡ 0 → Tells mid
-    → IsSettled mid commits (present old).output → During old mid (IsKept commits (present old).output) → Stands server (reopened commits) → ServesScript source server server_new clock_old clock_new mid new done → RunsWhole source clock_old old new server_new.replies result commits
-run_cut source clock_old clock_new old mid new server server_new done result commits err none tells settled during stands served =
+-- a run that was cut short
+pub run_cut : (source : SourceState) (taken : ℕ) (clock_old : ClockState) (old mid new : State) (server server_new : Server) (result : Result Bool Ending) (e : Ending) (commits : List Commit) → IsErrAnd result (λ x. x ≡ e) → server.replies ≡ 0 → Tells mid
+    → IsSettled mid commits (present old).output → During old mid (IsKept commits (present old).output) → Stands server (reopened commits) → ServesScript source taken server server_new clock_old mid new (Some e) → RunsWhole source taken clock_old old new server_new.replies result commits
+run_cut source taken clock_old old mid new server server_new result e commits err none tells settled during stands served =
     let x = served.serves (reopened commits) stands in
-    let failed = not_ok result err in
-    let runs = x.runs tells commits (present old).output settled in
-    let part : RunsFrom mid new 0 server_new.replies (run_of served.script x.clock (reopened commits)) (is_ok result) commits (present old).output = record {
-      moments = runs.moments;
-      settled = λ d. cc;
-      replies = λ shown is. runs.replies shown is ∙ ap (λ n. counted (n + replied (run_of served.script x.clock (reopened commits)) shown)) none;
-      tells = runs.tells;
-    } in
+    let same = early_is result e err in
     record {
       script = served.script;
       script_told = served.told;
+      enough = served.enough;
+      all_taken = λ q. absurd (not_none e (same ∙ q));
       clock = x.clock;
       clock_told = x.told;
-      runs = opened_first old mid new server_new.replies (run_of served.script x.clock (reopened commits)) (is_ok result) commits (present old).output during part;
-      error = answers_any result (has_error (run_of served.script x.clock (reopened commits))) err;
+      runs = subst (λ o. RunsFrom old new 0 server_new.replies (run_of served.script x.clock (reopened commits)) o commits (present old).output) same
+          (opened_first old mid new server.replies server_new.replies (run_of served.script x.clock (reopened commits)) (Some e) commits (present old).output none during (x.runs tells commits (present old).output settled).runs);
+      part = subst (λ o. IsPart o taken (run_of_taken taken served.script x.clock (reopened commits)) commits (present old).output new) same (x.part tells commits (present old).output settled);
+      error = answers_any result e (has_error (run_of served.script x.clock (reopened commits))) err;
     }
 
 -- a run that came to its end
-pub run_done : (source : SourceState) (clock_old clock_new : ClockState) (old mid new : State) (server server_new : Server) (commits : List Commit) → server.replies ≡ 0 → server.failed ≡ false → Tells mid
-    → IsSettled mid commits (present old).output → During old mid (IsKept commits (present old).output) → Stands server (reopened commits) → ServesScript source server server_new clock_old clock_new mid new true → RunsWhole source clock_old old new server_new.replies (Ok server_new.failed) commits
-run_done source clock_old clock_new old mid new server server_new commits none fine tells settled during stands served =
+pub run_done : (source : SourceState) (taken : ℕ) (clock_old : ClockState) (old mid new : State) (server server_new : Server) (commits : List Commit) → server.replies ≡ 0 → server.failed ≡ false → Tells mid
+    → IsSettled mid commits (present old).output → During old mid (IsKept commits (present old).output) → Stands server (reopened commits) → ServesScript source taken server server_new clock_old mid new None → RunsWhole source taken clock_old old new server_new.replies (Ok server_new.failed) commits
+run_done source taken clock_old old mid new server server_new commits none fine tells settled during stands served =
     let x = served.serves (reopened commits) stands in
-    let runs = x.runs tells commits (present old).output settled in
-    let part : RunsFrom mid new 0 server_new.replies (run_of served.script x.clock (reopened commits)) true commits (present old).output = record {
-      moments = runs.moments;
-      settled = runs.settled;
-      replies = λ shown is. runs.replies shown is ∙ ap (λ n. counted (n + replied (run_of served.script x.clock (reopened commits)) shown)) none;
-      tells = runs.tells;
-    } in
     record {
       script = served.script;
       script_told = served.told;
+      enough = served.enough;
+      all_taken = served.all_taken;
       clock = x.clock;
       clock_told = x.told;
-      runs = opened_first old mid new server_new.replies (run_of served.script x.clock (reopened commits)) true commits (present old).output during part;
+      runs = opened_first old mid new server.replies server_new.replies (run_of served.script x.clock (reopened commits)) None commits (present old).output none during (x.runs tells commits (present old).output settled).runs;
+      part = x.part tells commits (present old).output settled;
       error = x.failed refl ∙ ap (λ b. b || has_error (run_of served.script x.clock (reopened commits))) fine;
     }
 
--- the opening failed: nothing was taken from the script
-pub run_unopened : (source : SourceState) (clock : ClockState) (old mid : State) (n : ℕ) (result : Result Bool Ending) (commits : List Commit) → IsErr result → n ≡ 0 → Tells mid → During old mid (IsKept commits (present old).output) → RunsWhole source clock old mid n result commits
-run_unopened source clock old mid n result commits err none tells during = record {
-  script = source.left;
-  script_told = λ t. refl;
-  clock = clock.values;
-  clock_told = λ t k. refl;
-  runs = opened_only old mid n (run_of source.left clock.values (reopened commits)) commits (present old).output result err none tells during;
-  error = answers_any result (has_error (run_of source.left clock.values (reopened commits))) err;
-}
-
--- ---- the headline
-
-crash_prefix : (script : List ℕ) (clock : ℕ → ℕ) (commits : List Commit) (start : Image) (output : List ℕ) → StandsFor start commits → (m : Moment) → IsInside (run_of script clock (reopened commits)) commits output m → IsCrashPrefix (run_of script clock (reopened commits)) commits output m
-crash_prefix script clock commits start output stands m here = λ image leaves.
-    let x = here.left (image 1) (leaves 1) in
-    (x.0, record { log = x.1; lawful = run_lawful script clock commits output x.0 m.output stands.lawful x.2 }, x.2)
-
-counts_up : (n k : ℕ) → counted n ≡ counted (0 + k) → counted n ≡ counted k
-counts_up n k e = omega (arith, e)
-
-pub headline_of : (source_old source_new : SourceState) (clock_old : ClockState) (old new : State) (statements answer : ℕ) (result : Result Bool Ending) (commits : List Commit) → StandsFor (seen old) commits → RunsWhole source_old clock_old old new statements result commits
-    → ((script : List ℕ) (clock : ℕ → ℕ) → answer < 2 → RunsFrom old new 0 statements (run_of script clock (reopened commits)) (is_ok result) commits (present old).output → AnswersError result (has_error (run_of script clock (reopened commits)))
-    → IsComplete (run_of script clock (reopened commits)) commits source_old source_new old new answer)
-    → Headline source_old source_new clock_old old new answer statements commits
-headline_of source_old source_new clock_old old new statements answer result commits stands x complete = record {
-  script = x.script;
-  script_told = x.script_told;
-  clock = x.clock;
-  clock_told = x.clock_told;
-  output_prefix = weaker old new _ _ (λ m here. here.shown) x.runs.moments;
-  crash_prefix = weaker old new _ _ (crash_prefix x.script x.clock commits (seen old) (present old).output stands) x.runs.moments;
-  complete_run = λ low. complete x.script x.clock low x.runs x.error;
-  replies = λ shown is. counts_up statements (replied (run_of x.script x.clock (reopened commits)) shown) (x.runs.replies shown is);
-}
-
--- a run that came to its end is complete
-pub complete_of : (source_old source_new : SourceState) (old new : State) (statements answer : ℕ) (failed : Bool) (commits : List Commit) → StandsFor (seen old) commits → (IsTrue source_old.tells → source_new.left ≡ []) → answer ≡ cond failed 1 0
-    → (script : List ℕ) (clock : ℕ → ℕ) → answer < 2 → RunsFrom old new 0 statements (run_of script clock (reopened commits)) true commits (present old).output → failed ≡ has_error (run_of script clock (reopened commits))
-    → IsComplete (run_of script clock (reopened commits)) commits source_old source_new old new answer
-complete_of source_old source_new old new statements answer failed commits stands ended is script clock low runs error =
-    let events = run_of script clock (reopened commits) in
-    let settled = runs.settled refl in
-    record {
-      ended = ended;
-      all_out = settled.emitted;
-      all_there = record { log = settled.log; lawful = run_all_lawful script clock commits stands.lawful };
-      at_rest = settled.at_rest;
-      errors = is ∙ ap (λ (b : Bool). cond b 1 0) error;
-    }
-
-pub status_high : (ending : Ending) → 2 < status ending
-status_high (Stopped Memory) = omega arith
-status_high (Stopped Disk) = omega arith
-status_high (Stopped (Full what at limit)) = omega arith
-status_high (Stopped (Damaged file at)) = omega arith
-status_high EmitFault = omega arith
-status_high SourceFault = omega arith
-status_high TooLong = omega arith
-
-pub reported_none : (old new : State) (answer : ℕ) (stop : Option Stop) → answer < 2 → stop ≡ None → IsReported old new answer stop
-reported_none old new answer stop low is = record {
-  memory = λ e. absurd (omega (arith, low, e));
-  disk = λ e. absurd (omega (arith, low, e));
-  damaged = λ e. absurd (omega (arith, low, e));
-  full = λ e. absurd (omega (arith, low, e));
-  none = λ a b c d. is;
-}
+-- ---- damage
 
 -- a damaged log is no valid folder's
 damage_invalid : (bytes : List ℕ) (at : ℕ) (commits : List Commit) → IsDamagedAt bytes at → Holds commits bytes → (image : Image) → image 1 ≡ bytes → StandsFor image commits → ⊥

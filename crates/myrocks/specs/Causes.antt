@@ -1,6 +1,7 @@
 -- Why a run ends early, and what shows it.
-use Rattle.std.specs.Prelude.{◌≡◌, ℕ, ◌+◌, ◌^◌, ◌<◌, ◌≤◌, length}
-use Rattle.mr_base.specs.Disk.{State, Tells, HasRisen, file_of}
+use Rattle.std.specs.Prelude.{◌≡◌, ◌≢◌, ℕ, ◌+◌, ◌^◌, ◌<◌, ◌≤◌, length}
+use Rattle.mr_base.specs.Disk.{State, Tells, HasRisen, present, file_of}
+use Rattle.mr_base.specs.Calls.{During}
 use Rattle.mr_base.specs.Source.{SourceState}
 use Rattle.mr_base.specs.declared.stop.Stop.TheVariants.{Memory, Disk, Full, Damaged}
 use Rattle.mr_base.specs.declared.stop.FullKind.{FullKind}
@@ -8,11 +9,16 @@ use Rattle.mr_base.specs.declared.stop.FullKind.TheVariants.{Log}
 use Rattle.myrocks.specs.declared.ending.Ending.{Ending}
 use Rattle.myrocks.specs.declared.ending.Ending.TheVariants.{Stopped, EmitFault, SourceFault, TooLong}
 
--- whether a host tells stays, and no count of faults falls
+-- at each moment every file but the binary log is as it was
+abbrev pub KeepsOthers : State → State → Type 0
+KeepsOthers old new = During old new (λ m. (file : ℕ) → file ≢ 1 → m.files file ≡ (present old).files file)
+
+-- whether a host tells stays, no count of faults falls, and no file but the binary log is changed
 pub record GoesOn (old new : State) : Type 0 where
   pub tells : new.tells ≡ old.tells
   pub faults : old.faults ≤ new.faults
   pub emit_faults : old.emit_faults ≤ new.emit_faults
+  pub others : Tells old → KeepsOthers old new
 
 -- The binary log has no room below its limit for one commit more, whose record takes at most 230 bytes; where the host tells, it is
 -- as long as is said.

@@ -1,6 +1,6 @@
 -- A run that opened a folder and served a script, before its status is told.
-use Rattle.std.specs.Prelude.{◌≡◌, ℕ, List, [], ◌++◌, Bool, true, IsTrue, Option, Some, None, Result, Ok, Err, is_ok}
-use Rattle.mr_base.specs.Disk.{State, Tells, HasRisen, present, seen, file_of}
+use Rattle.std.specs.Prelude.{◌≡◌, ℕ, List, Bool, true, IsTrue, Option, Some, None, Result, Ok, Err, ◌≤◌, length}
+use Rattle.mr_base.specs.Disk.{State, Tells, HasRisen, present, file_of}
 use Rattle.mr_base.specs.Calls.{Same}
 use Rattle.mr_gate.specs.Log.{is_damaged_from}
 use Rattle.mr_base.specs.Source.{SourceState, ClockState}
@@ -11,7 +11,8 @@ use Rattle.mr_first.specs.World.{reopened, has_error}
 use Rattle.mr_first.specs.declared.commits.Commit.{Commit}
 use Rattle.myrocks.specs.Causes.{IsFull}
 use Rattle.myrocks.specs.Opening.{IsDamagedAt}
-use Rattle.myrocks.specs.Settled.{RunsFrom}
+use Rattle.myrocks.specs.Reading.{IsPart, run_of_taken}
+use Rattle.myrocks.specs.Settled.{RunsFrom, early}
 use Rattle.myrocks.specs.declared.ending.Ending.{Ending}
 use Rattle.myrocks.specs.declared.ending.Ending.TheVariants.{Stopped, EmitFault, SourceFault, TooLong}
 
@@ -21,12 +22,15 @@ AnswersError (Ok answer) error = answer ≡ error
 AnswersError (Err ending) error = Unit {0}
 
 -- there are a script and values of the clock, their own where they tell, and the script's events ran, wholly where it is Ok
-pub record RunsWhole (source : SourceState) (clock_old : ClockState) (old new : State) (statements : ℕ) (result : Result Bool Ending) (commits : List Commit) : Type 0 where
+pub record RunsWhole (source : SourceState) (taken : ℕ) (clock_old : ClockState) (old new : State) (statements : ℕ) (result : Result Bool Ending) (commits : List Commit) : Type 0 where
   pub script : List ℕ
   pub script_told : IsTrue source.tells → script ≡ source.left
+  pub enough : taken ≤ length script
+  pub all_taken : early result ≡ None → taken ≡ length script
   pub clock : ℕ → ℕ
   pub clock_told : IsTrue clock_old.tells → (k : ℕ) → clock k ≡ clock_old.values k
-  pub runs : RunsFrom old new 0 statements (run_of script clock (reopened commits)) (is_ok result) commits (present old).output
+  pub runs : RunsFrom old new 0 statements (run_of script clock (reopened commits)) (early result) commits (present old).output
+  pub part : IsPart (early result) taken (run_of_taken taken script clock (reopened commits)) commits (present old).output new
   pub error : AnswersError result (has_error (run_of script clock (reopened commits)))
 
 -- what a run shows that ends so

@@ -1,5 +1,5 @@
 -- Which folders are valid, and which commits they stand for.
-use Rattle.std.specs.Prelude.{◌≡◌, ℕ, List, Bool, false, Option, Some}
+use Rattle.std.specs.Prelude.{◌≡◌, ℕ, List, false, Some}
 use Rattle.mr_base.specs.Disk.{Image}
 use Rattle.mr_gate.specs.Log.{records_from, is_damaged_from}
 use Rattle.mr_first.specs.Lawful.{IsLawful}

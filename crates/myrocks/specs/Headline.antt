@@ -1,10 +1,11 @@
 -- The promise of a run.
-use Rattle.std.specs.Prelude.{◌≡◌, ◌≢◌, ℕ, ◌<◌, List, [], ◌++◌, Bool, IsTrue, true, Option, Some, None, if◌then◌else◌}
-use Rattle.mr_base.specs.Disk.{State, Moment, Image, Tells, Leaves, IsAtRest, present, seen, file_of}
+use Rattle.std.specs.Prelude.{◌≡◌, ◌≢◌, ◌⊎◌, ℕ, ◌<◌, ◌≤◌, ◌+◌, ◌^◌, List, [], ◌∷◌, ◌++◌, length, IsTrue, Option, Some, None, if◌then◌else◌}
+use Rattle.mr_base.specs.Disk.{State, Moment, Image, Tells, Leaves, HasRisen, IsAtRest, present, seen, file_of}
 use Rattle.mr_base.specs.Calls.{During}
 use Rattle.mr_base.specs.Source.{SourceState, ClockState}
 use Rattle.mr_base.specs.declared.stop.Stop.{Stop}
 use Rattle.mr_base.specs.declared.stop.Stop.TheVariants.{Memory, Disk, Full, Damaged}
+use Rattle.mr_base.specs.declared.stop.FullKind.{FullKind}
 use Rattle.mr_base.specs.declared.stop.FullKind.TheVariants.{Log}
 use Rattle.mr_first.specs.Replied.{replied}
 use Rattle.mr_first.specs.ScriptRun.{run_of, IsWithin}
@@ -13,7 +14,10 @@ use Rattle.mr_first.specs.declared.commits.Commit.{Commit}
 use Rattle.myrocks.specs.Causes.{IsFull}
 use Rattle.myrocks.specs.Folder.{StandsFor}
 use Rattle.myrocks.specs.Opening.{IsDamagedAt}
+use Rattle.myrocks.specs.Reading.{run_of_taken}
+use Rattle.myrocks.specs.Room.{record_size, log_length, HasRoom}
 use Rattle.myrocks.specs.Settled.{IsFront, counted}
+use Rattle.myrocks.specs.declared.run.Report.{Report}
 
 -- At each moment, for each image that a stop then may leave: the image is valid, and its commits are those from before and the
 -- first of the run's, so many that each whose reply is out is there, and at most one statement's more.
@@ -24,17 +28,50 @@ IsCrashPrefix events commits output m = (image : Image) → Leaves m image → (
 abbrev pub end_status : List Event → ℕ
 end_status events = if has_error events then 1 else 0
 
--- the run came to its end: the source is at its end, the whole output is out, and all commits are there
-pub record IsComplete (events : List Event) (commits : List Commit) (source_old source_new : SourceState) (old new : State) (status : ℕ) : Type 0 where
-  pub ended : IsTrue source_old.tells → source_new.left ≡ []
+-- These events and no others ran: what they reply is out, their commits are there with nothing pending, and the log had room for them.
+pub record HaveRun (events : List Event) (commits : List Commit) (old new : State) : Type 0 where
   pub all_out : (present new).output ≡ (present old).output ++ output_of events
   pub all_there : StandsFor (seen new) (commits ++ added_by events)
   pub at_rest : IsAtRest (file_of new 1)
+  pub room : HasRoom (log_length commits) (added_by events)
+
+-- the run came to its end: the source is at its end, and all events ran
+pub record IsComplete (events : List Event) (commits : List Commit) (source_old source_new : SourceState) (old new : State) (status : ℕ) : Type 0 where
+  pub ended : IsTrue source_old.tells → source_new.left ≡ []
+  pub whole : HaveRun events commits old new
   pub errors : status ≡ end_status events
+
+-- the source gave the byte that no script may have, and all that these events reply is out
+pub record IsTooLong (events : List Event) (taken : ℕ) (old new : State) : Type 0 where
+  pub taken_is : taken ≡ 2 ^ 30 + 1
+  pub all_out : (present new).output ≡ (present old).output ++ output_of events
+
+-- The first events ran, and the next one has a commit that would take the log, as long as it is, past its limit. The stop says so.
+pub record IsStoppedFull (events : List Event) (commits : List Commit) (old new : State) (stop : Option Stop) : Type 0 where
+  pub first : List Event
+  pub next : Event
+  pub others : List Event
+  pub split : events ≡ first ++ next ∷ others
+  pub ran : HaveRun first commits old new
+  pub commit : Commit
+  pub adds : next.added ≡ commit ∷ []
+  pub past : 2 ^ 40 < length (seen new 1) + record_size commit
+  pub says : stop ≡ Some (Full (Log 1) (length (seen new 1)) (2 ^ 40))
+
+-- No fault was counted, and the log has room for each commit of these events.
+pub record IsUndisturbed (events : List Event) (commits : List Commit) (source_old source_new : SourceState) (old new : State) : Type 0 where
+  pub source : HasRisen source_old.faults source_new.faults → ⊥
+  pub disk : HasRisen old.faults new.faults → ⊥
+  pub output : HasRisen old.emit_faults new.emit_faults → ⊥
+  pub room : HasRoom (log_length commits) (added_by events)
+
+-- but for want of memory
+abbrev pub OrMemory : ℕ → Type 0 → Type 0
+OrMemory status P = P ⊎ (status ≡ 3)
 
 -- There are a script and values of the clock, the source's and the clock's own where these tell, so that the events of the script's
 -- run, in the world that the commits at entry make, are what stands in the output and in the folder:
-pub record Headline (source_old source_new : SourceState) (clock_old : ClockState) (old new : State) (status statements : ℕ) (commits : List Commit) : Type 0 where
+pub record Headline (source_old source_new : SourceState) (clock_old : ClockState) (old new : State) (status : ℕ) (report : Report) (commits : List Commit) : Type 0 where
   pub script : List ℕ
   pub script_told : IsTrue source_old.tells → script ≡ source_old.left
   pub clock : ℕ → ℕ
@@ -46,7 +83,18 @@ pub record Headline (source_old source_new : SourceState) (clock_old : ClockStat
   -- the statuses 0 and 1 say that all was done
   pub complete_run : status < 2 → IsComplete (run_of script clock (reopened commits)) commits source_old source_new old new status
   -- the replies that were counted are those that are out
-  pub replies : (shown : List ℕ) → (present new).output ≡ (present old).output ++ shown → counted statements ≡ counted (replied (run_of script clock (reopened commits)) shown)
+  pub replies : (shown : List ℕ) → (present new).output ≡ (present old).output ++ shown → counted report.statements ≡ counted (replied (run_of script clock (reopened commits)) shown)
+  -- so many bytes of the script were taken, and the statuses 4 and 8 say that each statement that ended among them was served
+  pub enough : report.taken ≤ length script
+  pub cut_off : (status ≡ 4) ⊎ (status ≡ 8) → HaveRun (run_of_taken report.taken script clock (reopened commits)) commits old new
+  -- the status is 8 exactly where the source gave a byte too many, and all replies up to it are out
+  pub too_long : status ≡ 8 → IsTooLong (run_of_taken report.taken script clock (reopened commits)) report.taken old new
+  pub only_too_long : IsTooLong (run_of_taken report.taken script clock (reopened commits)) report.taken old new → OrMemory status (status ≡ 8)
+  -- the status 9 says that the log is full for the very next commit
+  pub full : status ≡ 9 → IsStoppedFull (run_of script clock (reopened commits)) commits old new report.stop
+  -- undisturbed, a run comes to its end, or to the byte that no script may have
+  pub completes : IsUndisturbed (run_of script clock (reopened commits)) commits source_old source_new old new → length script ≤ 2 ^ 30 → OrMemory status (status < 2)
+  pub reaches_limit : IsUndisturbed (run_of script clock (reopened commits)) commits source_old source_new old new → 2 ^ 30 < length script → OrMemory status (status ≡ 8)
 
 -- What is reported of a run that ended with this status: a stop on 3, 5, 7 and 9, and none on every other.
 pub record IsReported (old new : State) (status : ℕ) (stop : Option Stop) : Type 0 where
@@ -54,4 +102,5 @@ pub record IsReported (old new : State) (status : ℕ) (stop : Option Stop) : Ty
   pub disk : status ≡ 5 → stop ≡ Some Disk
   pub damaged : status ≡ 7 → (at : ℕ) × (stop ≡ Some (Damaged 1 at)) × (Tells old → IsDamagedAt (file_of old 1).bytes at)
   pub full : status ≡ 9 → (at : ℕ) × (limit : ℕ) × (stop ≡ Some (Full (Log 1) at limit)) × IsFull new (Log 1) at limit
+  pub only_full : (what : FullKind) (at limit : ℕ) → stop ≡ Some (Full what at limit) → status ≡ 9
   pub none : status ≢ 3 → status ≢ 5 → status ≢ 7 → status ≢ 9 → stop ≡ None

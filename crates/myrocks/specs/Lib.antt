@@ -1,5 +1,6 @@
 pub mod Folder
 pub mod Emitting
+pub mod Room
 pub mod Settled
 pub mod Serving
 pub mod Reading

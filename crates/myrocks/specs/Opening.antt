@@ -1,5 +1,5 @@
 -- How the commits of a binary log are judged when a folder is opened.
-use Rattle.std.specs.Prelude.{◌≡◌, ◌⊎◌, ℕ, ◌+◌, nat_le, List, [], ◌∷◌, ◌++◌, length, Bool, true, false, ◌&&◌, Option, Some, None, if◌then◌else◌}
+use Rattle.std.specs.Prelude.{◌≡◌, ◌⊎◌, ℕ, ◌+◌, nat_le, List, [], ◌∷◌, ◌++◌, length, true, false, ◌&&◌, Option, Some, None, if◌then◌else◌}
 use Rattle.std.specs.Option.{option_map_or}
 use Rattle.mr_base.specs.Disk.{State, Moment, Tells, MayLeave, HasRisen, file_of}
 use Rattle.mr_base.specs.declared.stop.Stop.{Stop}

@@ -1,16 +1,45 @@
 -- A script that is taken from a source in pieces.
-use Rattle.std.specs.Prelude.{◌≡◌, ℕ, List, ◌++◌, length, Bool, IsTrue}
-use Rattle.mr_base.specs.Disk.{State}
+use Rattle.std.specs.Prelude.{◌≡◌, ℕ, ◌+◌, ◌^◌, ◌≤◌, ◌<◌, List, [], ◌++◌, length, take, IsTrue, Option, Some, None, ◌||◌}
+use Rattle.mr_base.specs.Disk.{State, Tells, present}
 use Rattle.mr_base.specs.Source.{SourceState, ClockState}
-use Rattle.mr_first.specs.ScriptRun.{statements_of}
-use Rattle.myrocks.specs.Serving.{Serves}
+use Rattle.mr_first.specs.ScriptRun.{statements_in, run_of}
+use Rattle.mr_first.specs.World.{World, Event, trace, output_of, added_by, has_error}
+use Rattle.mr_first.specs.declared.commits.Commit.{Commit}
+use Rattle.myrocks.specs.Room.{log_length, HasRoom}
+use Rattle.myrocks.specs.Serving.{Stands}
+use Rattle.myrocks.specs.Settled.{IsSettled, IsUnfinished, Runs}
+use Rattle.myrocks.specs.declared.ending.Ending.{Ending}
+use Rattle.myrocks.specs.declared.ending.Ending.TheVariants.{Stopped, EmitFault, SourceFault, TooLong}
 use Rattle.myrocks.specs.declared.server.Server.{Server}
 
--- there is a script, the source's own where it tells, and its statements were served, wholly if it is done
-pub record ServesScript (source : SourceState) (old new : Server) (clock_old clock_new : ClockState) (host_old host_new : State) (done : Bool) : Type 0 where
+-- the run of those statements whose `;` is among the first bytes of a script
+abbrev pub run_of_taken : ℕ → List ℕ → (ℕ → ℕ) → World → List Event
+run_of_taken taken script clock w = trace w (statements_in [] (take taken script)) clock
+
+-- How many bytes were taken, and what became of the statements that ended among them. They were all served where the source failed
+-- or gave a byte too many. If that byte is there and something else ended the run early, some reply of theirs isn't wholly out.
+abbrev pub IsPart : Option Ending → ℕ → List Event → List Commit → List ℕ → State → Type 0
+IsPart None taken events commits output s = taken ≤ 2 ^ 30
+IsPart (Some SourceFault) taken events commits output s = (taken ≤ 2 ^ 30) × IsSettled s (commits ++ added_by events) (output ++ output_of events) × HasRoom (log_length commits) (added_by events)
+IsPart (Some TooLong) taken events commits output s = (taken ≡ 2 ^ 30 + 1) × IsSettled s (commits ++ added_by events) (output ++ output_of events) × HasRoom (log_length commits) (added_by events)
+IsPart (Some EmitFault) taken events commits output s = 2 ^ 30 < taken → IsUnfinished EmitFault events output (present s).output
+IsPart (Some (Stopped stop)) taken events commits output s = 2 ^ 30 < taken → IsUnfinished (Stopped stop) events output (present s).output
+
+-- a script was served at values of the clock, in a world that the server stood for
+pub record ServesBytes (script : List ℕ) (taken : ℕ) (old new : Server) (clock_old : ClockState) (host_old host_new : State) (ending : Option Ending) (w : World) : Type 0 where
+  pub clock : ℕ → ℕ
+  pub told : IsTrue clock_old.tells → (k : ℕ) → clock k ≡ clock_old.values k
+  pub runs : Runs host_old host_new old.replies new.replies (run_of script clock w) ending
+  pub failed : ending ≡ None → new.failed ≡ (old.failed || has_error (run_of script clock w))
+  pub part : Tells host_old → (commits : List Commit) (output : List ℕ) → IsSettled host_old commits output → IsPart ending taken (run_of_taken taken script clock w) commits output host_new
+
+-- there is a script, the source's own where it tells, of which so many bytes were taken, and it was served
+pub record ServesScript (source : SourceState) (taken : ℕ) (old new : Server) (clock_old : ClockState) (host_old host_new : State) (ending : Option Ending) : Type 0 where
   pub script : List ℕ
   pub told : IsTrue source.tells → script ≡ source.left
-  pub serves : Serves old new clock_old clock_new host_old host_new done (statements_of script)
+  pub enough : taken ≤ length script
+  pub all_taken : ending ≡ None → taken ≡ length script
+  pub serves : (w : World) → Stands old w → ServesBytes script taken old new clock_old host_old host_new ending w
 
 -- so many bytes were taken from the source, where it tells
 pub record IsTaken (old new : SourceState) (taken : ℕ) : Type 0 where

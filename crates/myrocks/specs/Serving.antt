@@ -1,5 +1,5 @@
 -- What is known of a server while statements are served.
-use Rattle.std.specs.Prelude.{◌≡◌, ℕ, zero, suc, ◌+◌, ◌^◌, List, length, Bool, true, IsTrue, Option, Some, None, ◌||◌}
+use Rattle.std.specs.Prelude.{◌≡◌, ℕ, zero, suc, ◌+◌, ◌^◌, List, length, take, true, IsTrue, Result, Ok, Err, Option, Some, None, ◌||◌}
 use Rattle.mr_base.specs.Disk.{State, Tells, file_of}
 use Rattle.mr_base.specs.Source.{ClockState}
 use Rattle.mr_gate.specs.Gate.{Gate, Stands as StandsOn}
@@ -12,6 +12,7 @@ use Rattle.mr_first.specs.declared.commits.Change.{Change}
 use Rattle.mr_first.specs.declared.statements.Statement.{Statement}
 use Rattle.mr_first.specs.declared.tables.Table.{Table}
 use Rattle.myrocks.specs.Settled.{Runs}
+use Rattle.myrocks.specs.declared.ending.Ending.{Ending}
 use Rattle.myrocks.specs.declared.server.Server.{Server}
 
 -- the log is file 1 from its beginning, is open, and stands on what the file has
@@ -42,21 +43,26 @@ after_change database (Some change) = applied change database
 abbrev pub IsRead : Option Statement → Type 0
 IsRead statement = option_map_or is_valid_statement statement true ≡ true
 
+-- the bytes that were taken from a piece: so many, all of them where that ended early
+abbrev pub fed : List ℕ → Result ℕ Ending → List ℕ
+fed bytes (Ok n) = take n bytes
+fed bytes (Err e) = bytes
+
 -- a clock whose next value is this one, and whose later ones are those of another
 abbrev pub one_value : ℕ → (ℕ → ℕ) → ℕ → ℕ
 one_value value others zero = value
 one_value value others (suc k) = others (suc k)
 
--- These statements were served, in part or wholly, at values of the clock that are its own where it tells them.
-pub record Served (old new : Server) (clock_old clock_new : ClockState) (host_old host_new : State) (done : Bool) (statements : List (Option Statement)) (w : World) : Type 0 where
+-- These statements were served, wholly where they didn't end early, at values of the clock that are its own where it tells them.
+pub record Served (old new : Server) (clock_old clock_new : ClockState) (host_old host_new : State) (ending : Option Ending) (statements : List (Option Statement)) (w : World) : Type 0 where
   pub clock : ℕ → ℕ
   pub told : IsTrue clock_old.tells → (k : ℕ) → clock k ≡ clock_old.values k
-  pub runs : Runs host_old host_new old.replies new.replies (trace w statements clock) done
-  pub stands : done ≡ true → Stands new (world_behind w statements clock)
-  pub failed : done ≡ true → new.failed ≡ (old.failed || has_error (trace w statements clock))
+  pub runs : Runs host_old host_new old.replies new.replies (trace w statements clock) ending
+  pub stands : ending ≡ None → Stands new (world_behind w statements clock)
+  pub failed : ending ≡ None → new.failed ≡ (old.failed || has_error (trace w statements clock))
   pub tells : clock_new.tells ≡ clock_old.tells
-  pub later : done ≡ true → IsTrue clock_old.tells → (k : ℕ) → clock_new.values k ≡ clock_old.values (length statements + k)
+  pub later : ending ≡ None → IsTrue clock_old.tells → (k : ℕ) → clock_new.values k ≡ clock_old.values (length statements + k)
 
 -- from any world that the server stands for
-abbrev pub Serves : Server → Server → ClockState → ClockState → State → State → Bool → List (Option Statement) → Type 0
-Serves old new clock_old clock_new host_old host_new done statements = (w : World) → Stands old w → Served old new clock_old clock_new host_old host_new done statements w
+abbrev pub Serves : Server → Server → ClockState → ClockState → State → State → Option Ending → List (Option Statement) → Type 0
+Serves old new clock_old clock_new host_old host_new ending statements = (w : World) → Stands old w → Served old new clock_old clock_new host_old host_new ending statements w

@@ -17,10 +17,10 @@ ghost use Rattle.myrocks.specs.Causes.{GoesOn};
 
 use crate::server::Server;
 use mr_base::{Blob, Host, Memory, Stop};
+use mr_first::Commit;
 use mr_gate::GateLog;
 use mr_lists::Tables;
 use mr_plain::read_commit;
-use mr_first::Commit;
 use std::alloc::Global;
 
 /// The binary log is this file.

@@ -6,6 +6,7 @@ ghost use Rattle.mr_base.specs.Calls.{Same};
 ghost use Rattle.mr_gate.specs.Log.{is_damaged_from};
 ghost use Rattle.mr_first.specs.declared.commits.Commit.{Commit};
 ghost use Rattle.mr_words.specs.Form.{IsRunForm};
+ghost use Rattle.myrocks.specs.Causes.{GoesOn, KeepsOthers};
 ghost use Rattle.myrocks.specs.Folder.{StandsFor, IsValid};
 ghost use Rattle.myrocks.specs.Headline.{Headline, IsReported};
 ghost use Rattle.myrocks.specs.Ended.{RunsWhole, IsRunCause, IsServed, KeepsDamaged, reported, status};
@@ -71,11 +72,12 @@ fn run_all<S: Source, H: Host, C: Clock>(
 ) -> Result<bool, Ending>
     requires fresh { (report.old.taken ≡ 0) × (report.old.statements ≡ 0) }
     ensures runs { Tells (H.disk host.old) → (commits : List Commit) → StandsFor (seen (H.disk host.old)) commits → NothingPending (present (H.disk host.old))
-        → RunsWhole (S.source source.old) (C.clock clock.old) (H.disk host.old) (H.disk host.new) report.new.statements result commits }
+        → RunsWhole (S.source source.old) report.new.taken (C.clock clock.old) (H.disk host.old) (H.disk host.new) report.new.statements result commits }
     ensures ended { IsTrue (S.source source.old).tells → OnOk result ((S.source source.new).left ≡ []) }
     ensures taken { IsTaken (S.source source.old) (S.source source.new) report.new.taken }
     ensures stop { report.new.stop ≡ report.old.stop }
     ensures cause { IfErr result (IsRunCause (S.source source.old) (S.source source.new) (H.disk host.old) (H.disk host.new) report.new.taken) }
+    ensures goes_on { GoesOn (H.disk host.old) (H.disk host.new) }
     ensures kept { IfErr result (KeepsDamaged (H.disk host.old) (H.disk host.new)) }
     ensures valid { Tells (H.disk host.old) → IsServed result (IsValid (seen (H.disk host.old))) }
 {
@@ -104,8 +106,10 @@ pub fn run<S: Source, H: Host, C: Clock>(
     report: &mut Report,
 ) -> u8
     ensures headline { IsRunForm (map string_bytes words.now) → Tells (H.disk host.old) → (commits : List Commit) → StandsFor (seen (H.disk host.old)) commits → NothingPending (present (H.disk host.old))
-        → Headline (S.source source.old) (S.source source.new) (C.clock clock.old) (H.disk host.old) (H.disk host.new) result report.new.statements commits }
+        → Headline (S.source source.old) (S.source source.new) (C.clock clock.old) (H.disk host.old) (H.disk host.new) result report.new commits }
 
+    // At every moment each file but the binary log is as it was.
+    ensures others { Tells (H.disk host.old) → KeepsOthers (H.disk host.old) (H.disk host.new) }
     ensures bound { result ≤ 9 }
     ensures usage { (result ≡ 2) ↔ (IsRunForm (map string_bytes words.now) → ⊥) }
     ensures untouched { result ≡ 2 → (host.new ≡ host.old) × (source.new ≡ source.old) × (clock.new ≡ clock.old) }

@@ -1,8 +1,9 @@
 //! A whole script.
 
-ghost use Rattle.std.specs.Prelude.{◌≡◌, ℕ, [], IsTrue, OnOk, IfErr, is_ok};
+ghost use Rattle.std.specs.Prelude.{◌≡◌, ℕ, [], IsTrue, OnOk, IfErr};
 ghost use Rattle.myrocks.specs.Serving.{IsServing};
 ghost use Rattle.myrocks.specs.Reading.{ServesScript, IsTaken};
+ghost use Rattle.myrocks.specs.Settled.{early};
 ghost use Rattle.myrocks.specs.Causes.{GoesOn, IsScriptCause};
 
 use crate::ending::Ending;
@@ -29,7 +30,7 @@ impl Shell {
         requires serving { IsServing self.old.server (H.disk host.old) }
         requires fresh { self.old.part.items ≡ [] }
         requires none { taken.old ≡ 0 }
-        ensures serves { ServesScript (S.source source.old) self.old.server self.new.server (C.clock clock.old) (C.clock clock.new) (H.disk host.old) (H.disk host.new) (is_ok result) }
+        ensures serves { ServesScript (S.source source.old) taken.new self.old.server self.new.server (C.clock clock.old) (H.disk host.old) (H.disk host.new) (early result) }
         ensures ended { IsTrue (S.source source.old).tells → OnOk result ((S.source source.new).left ≡ []) }
         ensures taken { IsTaken (S.source source.old) (S.source source.new) taken.new }
         ensures goes_on { GoesOn (H.disk host.old) (H.disk host.new) }

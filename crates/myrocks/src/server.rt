@@ -1,13 +1,13 @@
 //! Statements one after the other.
 
-ghost use Rattle.std.specs.Prelude.{◌≡◌, ℕ, List, [], ◌∷◌, Option, OnOk, IfOk, IfErr, IfSome, true, is_ok, ◌||◌};
+ghost use Rattle.std.specs.Prelude.{◌≡◌, ℕ, List, [], ◌∷◌, Option, OnOk, IfOk, IfErr, IfSome, true, ◌||◌};
 ghost use Rattle.mr_lists.specs.StandsFor.{StandsFor};
 ghost use Rattle.mr_first.specs.Database.{replay};
 ghost use Rattle.mr_first.specs.CommitForm.{is_formed_change};
 ghost use Rattle.mr_first.specs.Lawful.{is_lawful_change};
 ghost use Rattle.mr_first.specs.World.{World, commits_at, event_at, outcome_at, world_after, has_error, is_refusal as refusal_of};
 ghost use Rattle.mr_first.specs.declared.tables.Table.{Table};
-ghost use Rattle.myrocks.specs.Settled.{Appends, Runs};
+ghost use Rattle.myrocks.specs.Settled.{Appends, Runs, early};
 ghost use Rattle.myrocks.specs.Serving.{IsReady, IsServing, Stands, IsRead, after_change};
 ghost use Rattle.myrocks.specs.Causes.{GoesOn, IsCausedBy};
 
@@ -15,10 +15,10 @@ use crate::commit_log::append_commit;
 use crate::emit::emit_all;
 use crate::ending::Ending;
 use mr_base::{Host, Memory};
+use mr_first::{Change, Commit, Outcome, Reply, Statement};
 use mr_gate::GateLog;
 use mr_lists::Tables;
 use mr_plain::reply_text;
-use mr_first::{Change, Commit, Outcome, Reply, Statement};
 use std::alloc::Global;
 
 /// The tables, the log of their commits, the moment, whether some reply was an error, and how many replies are out.
@@ -63,7 +63,7 @@ fn make_change<H: Host>(
     requires formed { IfSome change (λ c. is_formed_change c ≡ true) }
     ensures ready { OnOk result (IsReady log.new (H.disk host.new)) }
     ensures tables { OnOk result ((database : List Table) → StandsFor tables.old database → IfSome change (λ c. is_lawful_change database c ≡ true) → StandsFor tables.new (after_change database change)) }
-    ensures appends { Appends (H.disk host.old) (H.disk host.new) (commits_at moment change) (is_ok result) }
+    ensures appends { Appends (H.disk host.old) (H.disk host.new) (commits_at moment change) (early result) }
     ensures goes_on { GoesOn (H.disk host.old) (H.disk host.new) }
     ensures cause { IfErr result (IsCausedBy (H.disk host.old) (H.disk host.new)) }
 {
@@ -90,7 +90,7 @@ impl Server {
         requires serving { IsServing self.old (H.disk host.old) }
         requires read { IsRead statement }
         ensures serving { OnOk result (IsServing self.new (H.disk host.new)) }
-        ensures runs { (w : World) → Stands self.old w → Runs (H.disk host.old) (H.disk host.new) self.old.replies self.new.replies (event_at w statement clock_value ∷ []) (is_ok result) }
+        ensures runs { (w : World) → Stands self.old w → Runs (H.disk host.old) (H.disk host.new) self.old.replies self.new.replies (event_at w statement clock_value ∷ []) (early result) }
         ensures stands { OnOk result ((w : World) → Stands self.old w → Stands self.new (world_after w statement clock_value)) }
         ensures failed { OnOk result ((w : World) → Stands self.old w → self.new.failed ≡ (self.old.failed || has_error (event_at w statement clock_value ∷ []))) }
         ensures goes_on { GoesOn (H.disk host.old) (H.disk host.new) }

@@ -1,7 +1,6 @@
-use Rattle.std.proofs.Common.{◌≡◌, ◌∙◌, ◌++◌, ◌+◌, [], ap, sym, arith, length, take, take_all, append-nil, Result, Ok, Err, OnErr, OnOk}
+use Rattle.std.proofs.Common.{◌∙◌, ◌++◌, ap, sym, arith, take_all, append-nil, Result, Ok, Err, OnErr}
 use Rattle.mr_base.specs.Disk.{present, HasRisen}
 use Rattle.mr_base.proofs.Counting.{emit_tells}
-use Rattle.mr_base.proofs.Moments.{at_end}
 use Rattle.myrocks.specs.Emitting.{IsCutShort}
 use Rattle.myrocks.proofs.Emitted.{emit_counts_start, emit_counts_then, shown_start, shown_on, shown_same, output_on}
 use Rattle.myrocks.proofs.emit.emit_all.Goals as goal

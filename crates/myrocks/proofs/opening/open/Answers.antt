@@ -1,4 +1,3 @@
-use Rattle.std.proofs.Common.{◌∙◌}
 use Rattle.mr_base.proofs.Counting.{rises_tells}
 use Rattle.mr_first.specs.World.{reopened}
 use Rattle.myrocks.proofs.Replaying.{opening_kept, then_nothing, ready_opened, ready_same}

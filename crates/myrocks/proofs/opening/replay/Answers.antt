@@ -1,11 +1,11 @@
-use Rattle.std.proofs.Common.{◌≡◌, ◌∙◌, ◌≤◌, ◌<◌, ◌+◌, ◌-◌, ℕ, Some, None, Err, IfSome, refl, ap, sym, subst, arith, length}
+use Rattle.std.proofs.Common.{◌≡◌, ◌∙◌, ◌≤◌, ◌+◌, Some, None, Err, IfSome, refl, ap, sym, subst, arith, length}
 use Rattle.mr_base.proofs.Moments.{same_start, same_then}
 use Rattle.mr_gate.specs.Gate.{IsNext}
-use Rattle.mr_base.specs.Disk.{Tells, file_of}
+use Rattle.mr_base.specs.Disk.{file_of}
 use Rattle.myrocks.specs.Opening.{IsOpeningCause}
-use Rattle.myrocks.proofs.Appending.{goes_nowhere, goes_then, goes_counts, goes_tells}
+use Rattle.myrocks.proofs.Appending.{goes_nowhere, goes_then, goes_counts, goes_tells, others_same}
 use Rattle.myrocks.proofs.Replaying.{replaying_start, replaying_on, replaying_end, replaying_damage, reaches_now, next_before, ready_sound, read_cause}
-use Rattle.myrocks.proofs.Running.{err_is}
+use Rattle.myrocks.proofs.Early.{err_is}
 use Rattle.myrocks.proofs.opening.replay.Goals as goal
 
 pub records-init : goal.records-init
@@ -45,7 +45,7 @@ records-preserved g c =
     let mid = g.H.Disk.disk c.records.host in
     let ahead = subst (λ o. IfSome o (λ r. (r.1 ≡ c.records.at + (5 + length r.0)) × (r.1 ≤ c.args.log.now.end))) c.in-Some.is c.in_ok-body.ensures.ahead in
     record {
-      goes_on = goes_then _ _ _ inv.goes_on (goes_counts _ _ _ _ _ c.in_ok-body.ensures.counts);
+      goes_on = goes_then _ _ _ inv.goes_on (goes_counts _ _ _ _ _ c.in_ok-body.ensures.counts (λ tells. others_same _ _ (c.in_ok-body.ensures.same tells)));
       same = λ tells. same_then _ _ _ (inv.same tells) (c.in_ok-body.ensures.same (goes_tells _ _ inv.goes_on tells));
       within = ahead.1;
       replaying = replaying_on old c.records.at c.in-Some.next c.records.tables c.apply.new.self c.records.moment c.in-Some.body c.in-Some-2.commit inv.replaying ahead.0

@@ -1,4 +1,4 @@
-use Rattle.std.proofs.Common.{◌≡◌, ◌≤◌, ◌-◌}
+use Rattle.std.proofs.Common.{◌≤◌, ◌-◌}
 use Rattle.mr_base.specs.Disk.{Tells}
 use Rattle.mr_base.specs.Calls.{Same}
 use Rattle.myrocks.specs.Causes.{GoesOn}

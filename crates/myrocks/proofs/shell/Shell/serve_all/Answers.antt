@@ -1,9 +1,7 @@
-use Rattle.std.proofs.Common.{◌≡◌, ◌∙◌, ◌≤◌, List, ℕ, ◌++◌, ap, sym, take, drop, arith, IsTrue, Err, Ok, Result, OnOk, length, ◌+◌, refl}
+use Rattle.std.proofs.Common.{◌≡◌, ◌∙◌, ◌≤◌, List, ℕ, ◌++◌, ap, sym, take, drop, arith, IsTrue, Err, Ok, Result, OnOk, length, ◌+◌}
 use Rattle.std.proofs.lemmas.List.{take-append-le, length-take, length-take-le}
-use Rattle.mr_base.specs.Source.{SourceState}
 use Rattle.myrocks.proofs.Appending.{goes_nowhere, goes_then}
-use Rattle.myrocks.proofs.Causes.{script_cause}
-use Rattle.myrocks.proofs.Served.{taken_start, taken_same, taken_on, is_taken, is_taken_more, script_cut, script_cut_inside, script_done, nothing_taken}
+use Rattle.myrocks.proofs.Taking.{taken_start, taken_same, taken_on, is_taken, is_taken_more, script_failed, script_too_long, script_cut_inside, script_done, nothing_taken}
 use Rattle.myrocks.proofs.shell.Shell.serve_all.Goals as goal
 
 on_any : {T E : Type 0} (P : Type 0) (r : Result T E) → P → OnOk r P
@@ -29,7 +27,8 @@ loop-taken-init g c = record {
 pub returns-in_err-count-clause-serves : goal.returns-in_err-count-clause-serves
 returns-in_err-count-clause-serves g c =
     let e = c.in_err-count.ensures in
-    script_cut _ (g.S.Source.source c.take.new.self) _ _ _ _ _ _ _ _ c.from_residual.result c.from_residual.ensures.0 (taken_same _ (g.S.Source.source c.loop-taken.source) (g.S.Source.source c.take.new.self) _ _ _ _ _ _ _ _ c.loop-taken.invariant.so_far e.tells e.nothing)
+    script_failed _ (g.S.Source.source c.take.new.self) _ _ _ _ _ _ _ c.loop-taken.taken c.from_residual.result c.from_residual.ensures.1 (omega (arith, c.loop-taken-test.true))
+    (taken_same _ (g.S.Source.source c.loop-taken.source) (g.S.Source.source c.take.new.self) _ _ _ _ _ _ _ _ c.loop-taken.invariant.so_far e.tells e.nothing)
 
 pub returns-in_err-count-clause-taken : goal.returns-in_err-count-clause-taken
 returns-in_err-count-clause-taken g c =
@@ -41,8 +40,9 @@ returns-then-count-eq0-clause-serves g c =
     let e = c.in_ok-count.ensures in
     let inv = c.loop-taken.invariant in
     let same = λ (tells : IsTrue (g.S.Source.source c.loop-taken.source).tells). nothing_taken _ _ c.take.new.out c.in_ok-count.count c.if-count-eq0.true (e.moved tells) in
-    script_done _ (g.S.Source.source c.take.new.self) _ _ _ _ _ _ _ _ _ _ _ _ (taken_same _ (g.S.Source.source c.loop-taken.source) (g.S.Source.source c.take.new.self) _ _ _ _ _ _ _ _ inv.so_far e.tells same)
-    (λ tells. same (sym e.tells ∙ tells) ∙ e.end (sym e.tells ∙ tells) (omega (arith, c.min-room.ensures, c.loop-taken-test.true, length-take c.min-room.result c.loop-taken.buffer)) c.if-count-eq0.true) c.finish.ensures.serves
+    script_done _ (g.S.Source.source c.take.new.self) _ _ _ _ _ _ _ _ _ _ c.loop-taken.taken c.finish.result (taken_same _ (g.S.Source.source c.loop-taken.source) (g.S.Source.source c.take.new.self) _ _ _ _ _ _ _ _ inv.so_far e.tells same)
+    (λ tells. same (sym e.tells ∙ tells) ∙ e.end (sym e.tells ∙ tells) (omega (arith, c.min-room.ensures, c.loop-taken-test.true, length-take c.min-room.result c.loop-taken.buffer)) c.if-count-eq0.true)
+    (omega (arith, c.loop-taken-test.true)) c.finish.ensures.cause c.finish.ensures.serves
 
 pub returns-then-count-eq0-clause-ended : goal.returns-then-count-eq0-clause-ended
 returns-then-count-eq0-clause-ended g c = λ tells.
@@ -86,7 +86,9 @@ returns-in_err-feed_all-clause-serves g c =
     let out = c.take.new.out in
     let back = drop c.min-room.result c.loop-taken.buffer in
     let fits : n ≤ length out = omega (arith, e.fits, c.take.auto.out) in
-    script_cut_inside _ (g.S.Source.source c.loop-taken.source) (g.S.Source.source c.take.new.self) _ (take n (out ++ back)) _ _ _ _ _ _ _ _ _ _ _ c.from_residual-in_err-feed_all.result c.from_residual-in_err-feed_all.ensures.0 inv.so_far (λ tells. piece_of _ _ out back n fits (e.moved tells)) c.in_err-feed_all.ensures.serves
+    script_cut_inside _ (g.S.Source.source c.loop-taken.source) (g.S.Source.source c.take.new.self) _ (take n (out ++ back)) _ _ _ _ _ _ _ _ _ _ _ c.from_residual-in_err-feed_all.result c.in_err-feed_all.field-0.0 c.from_residual-in_err-feed_all.ensures.1 inv.so_far
+    (λ tells. piece_of _ _ out back n fits (e.moved tells)) (let s : c.loop-taken.taken + n ≡ c.loop-taken.taken + length (take n (out ++ back)) = omega (arith, piece_length out back n fits) in s)
+    c.in_err-feed_all.ensures.cause c.in_err-feed_all.ensures.serves
 
 pub returns-in_err-feed_all-clause-taken : goal.returns-in_err-feed_all-clause-taken
 returns-in_err-feed_all-clause-taken g c =
@@ -103,7 +105,7 @@ pub returns-in_err-feed_all-clause-goes_on : goal.returns-in_err-feed_all-clause
 returns-in_err-feed_all-clause-goes_on g c = goes_then _ _ _ c.loop-taken.invariant.goes_on c.in_err-feed_all.ensures.goes_on
 
 pub returns-clause-serves : goal.returns-clause-serves
-returns-clause-serves g c = script_cut {T = ℕ} {E = ℕ} _ _ _ _ _ _ _ _ _ _ (Err 0) refl c.loop-taken.invariant.so_far
+returns-clause-serves g c = script_too_long _ _ _ _ _ _ _ _ _ c.loop-taken.taken (omega (arith, c.loop-taken-test.false, c.loop-taken.invariant.bound)) c.loop-taken.invariant.so_far
 
 pub returns-clause-taken : goal.returns-clause-taken
 returns-clause-taken g c = is_taken _ _ _ _ _ _ _ _ _ _ c.loop-taken.invariant.so_far

@@ -1,7 +1,7 @@
 use Rattle.std.proofs.Common.{◌≤◌, ◌-◌}
 use Rattle.myrocks.specs.Causes.{GoesOn}
 use Rattle.myrocks.specs.Serving.{IsServing}
-use Rattle.myrocks.proofs.Served.{Taken}
+use Rattle.myrocks.proofs.Taking.{Taken}
 use Rattle.myrocks.proofs.shell.Shell.serve_all.Given as goal
 
 abbrev pub invariant-loop-taken : goal.invariant-loop-taken
