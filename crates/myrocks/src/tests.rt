@@ -1,11 +1,12 @@
 //! Whole runs over a folder in memory, at moment 7.
 
 mod causes;
+mod endless;
 mod rows;
 mod stops;
 
 use crate::run::{Report, run};
-use mr_base::Memory;
+use mr_base::{Memory, Source};
 use mr_memhost::{Choice, ListClock, MemHost, MemSource};
 use std::alloc::Global;
 
@@ -27,11 +28,11 @@ struct Ended {
 }
 
 /// Runs the program with these words.
-fn run_words(
+fn run_words<S: Source>(
     alloc: Global,
     words: &[&str],
     host: &mut MemHost,
-    source: &mut MemSource,
+    source: &mut S,
 ) -> Result<Ended, Memory> {
     let mut texts = Vec::new(alloc);
     for word in words {
