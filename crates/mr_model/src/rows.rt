@@ -65,8 +65,9 @@ pub fn columns_cmp(def: &TableDef, places: &[u8], r: &Row, s: &Row) -> Ordering
 pub fn primary_cmp(def: &TableDef, r: &Row, s: &Row) -> Ordering
     ensures { result ≡ primary_order def.now r.now s.now }
 {
-    columns_cmp(def, def.primary.columns.as_slice(), r, s)
-        .then(r.hidden.unwrap_or(0).cmp(&s.hidden.unwrap_or(0)))
+    columns_cmp(def, def.primary.columns.as_slice(), r, s).then(
+        r.hidden.unwrap_or(0).cmp(&s.hidden.unwrap_or(0)),
+    )
 }
 
 /// Whether they have the same primary key.
@@ -125,12 +126,7 @@ pub fn is_visible(def: &TableDef, moment: u64, row: &Row) -> bool
 }
 
 /// The rows that statements see at a moment.
-pub fn visible(
-    alloc: Global,
-    def: &TableDef,
-    moment: u64,
-    rows: &[Row],
-) -> Result<RowList, Memory>
+pub fn visible(alloc: Global, def: &TableDef, moment: u64, rows: &[Row]) -> Result<RowList, Memory>
     ensures { IfOk result (λ kept. kept ≡ seen def.now moment rows.now) }
 {
     let mut kept = RowList::new(alloc);
