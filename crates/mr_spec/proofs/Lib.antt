@@ -1,3 +1,12 @@
+pub mod SpelledRows
+pub mod Fitting
+pub mod FitTokens
+pub mod FitConditions
+pub mod FitRows
+pub mod FitSelect
+pub mod FitTables
+pub mod FitSessions
+pub mod FitGrammar
 pub mod Written
 pub mod Conditions
 pub mod Traces

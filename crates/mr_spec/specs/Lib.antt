@@ -1,3 +1,12 @@
+pub mod Words
+pub mod Phrases
+pub mod Literals
+pub mod ConditionPhrases
+pub mod RowPhrases
+pub mod SelectPhrase
+pub mod TablePhrases
+pub mod SessionPhrases
+pub mod Grammar
 pub mod Rows
 pub mod ColumnChecks
 pub mod KeyChecks

@@ -1,11 +1,13 @@
--- A run of statements, and the commits that an output acknowledges.
-use Rattle.std.specs.Prelude.{◌≡◌, ◌≤◌, take, ℕ, ◌+◌, suc, Bool, true, false, List, [], ◌∷◌, ◌++◌, length, drop, Result}
+-- The run of a script, and the commits that an output acknowledges.
+use Rattle.std.specs.Prelude.{◌≡◌, ◌≤◌, take, ℕ, ◌+◌, suc, Bool, true, false, List, [], ◌∷◌, ◌++◌, length, drop, Result, Err, map}
 use Rattle.std.specs.List.{list_any}
 use Rattle.std.specs.Option.{option_map_or}
+use Rattle.mr_lex.specs.Cutting.{Part, Statement as Whole, Rest, parts_of}
 use Rattle.mr_types.specs.declared.row.Commit.{Commit}
 use Rattle.mr_types.specs.declared.row.Reply.{Reply}
 use Rattle.mr_types.specs.declared.row.Reply.TheVariants as reply
 use Rattle.mr_types.specs.declared.statement.Statement.{Statement}
+use Rattle.mr_spec.specs.Grammar.{parsed}
 use Rattle.mr_spec.specs.TtlOptions.{behind}
 use Rattle.mr_spec.specs.World.{World}
 use Rattle.mr_spec.specs.Step.{step}
@@ -33,6 +35,19 @@ trace w (s ∷ ss) now = event_at w s (now 0) ∷ trace (world_after w s (now 0)
 abbrev pub world_behind : World → List (Result Statement ℕ) → (ℕ → ℕ) → World
 world_behind w [] now = w
 world_behind w (s ∷ ss) now = world_behind (world_after w s (now 0)) ss (λ k. now (suc k))
+
+-- a part of a script: its statement or its refusal, which is 1064 for a rest at the end
+abbrev pub read_part : Part → Result Statement ℕ
+read_part (Whole text) = parsed text
+read_part Rest = Err 1064
+
+-- the statements of a script
+abbrev pub statements_of : List ℕ → List (Result Statement ℕ)
+statements_of script = map read_part (parts_of script)
+
+-- the events of a script in this world, with these values of the clock
+abbrev pub run_of : List ℕ → (ℕ → ℕ) → World → List Event
+run_of script now w = trace w (statements_of script) now
 
 -- the texts of all replies
 abbrev pub output_of : List Event → List ℕ

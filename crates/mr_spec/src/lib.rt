@@ -3,11 +3,13 @@
 #![tactic(auto)]
 
 mod bound;
+mod drafts;
 mod laws;
 mod truth;
 mod world;
 
 pub use bound::{Bound, BoundList};
+pub use drafts::{Attributes, ColumnDraft, Limit, TableDraft, TableKey, TableOptions};
 pub use laws::{
     bound_conditions_agree, commits_are_kept, others_count_by_their_claims,
     refusals_leave_the_world, replay_is_what_is_seen, same_values_collide, snapshots_stay,
