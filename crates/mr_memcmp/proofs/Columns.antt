@@ -33,7 +33,7 @@ flipped_cmp half (pos x) (negsuc y) p q = cmp_greater (2 ^ half + x) (2 ^ half -
 flipped_cmp half (negsuc x) (pos y) p q = cmp_less (2 ^ half - suc x) (2 ^ half + y) (omega arith)
 flipped_cmp half (negsuc x) (negsuc y) p q = rw int_cmp-negsuc (grind (arith, nat_tests))
 
-flipped_below : (half : ℕ) (x : ℤ) → IsSigned half x → sign_flipped half x < 2 * 2 ^ half
+pub flipped_below : (half : ℕ) (x : ℤ) → IsSigned half x → sign_flipped half x < 2 * 2 ^ half
 flipped_below half (pos x) p = omega arith
 flipped_below half (negsuc x) p = omega arith
 
@@ -42,7 +42,7 @@ magnitude_cmp width (pos x) (pos y) p q = sym (int_cmp-pos x y)
 magnitude_cmp width (pos x) (negsuc y) p q = absurd q
 magnitude_cmp width (negsuc x) y p q = absurd p
 
-magnitude_below : (width : ℕ) (x : ℤ) → IsUnsigned width x → magnitude x < 2 ^ width
+pub magnitude_below : (width : ℕ) (x : ℤ) → IsUnsigned width x → magnitude x < 2 ^ width
 magnitude_below width (pos x) p = p
 magnitude_below width (negsuc x) p = absurd p
 

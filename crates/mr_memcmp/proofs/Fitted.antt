@@ -17,7 +17,7 @@ use Rattle.mr_types.specs.Values.{assign_to, convert_to, fitted, whole_number, i
 use Rattle.mr_types.specs.Rows.{AreFields, IsRowOf}
 use Rattle.mr_memcmp.specs.Fitting.{FitsColumn, FitsPart, AllFit, IsNumber, HoldsTexts, HoldsBytes}
 
-abbrev kept : Value → Result Value ℕ
+abbrev pub kept : Value → Result Value ℕ
 kept v = Ok v
 
 -- ---- the sort of a value
@@ -83,10 +83,10 @@ in_bigint_unsigned : (z : ℤ) → is_in_kind BigIntUnsigned z ≡ true → IsNu
 in_bigint_unsigned (pos n) h = grind (arith, nat_tests)
 in_bigint_unsigned (negsuc n) h = absurd cc
 
-abbrev Taken : Kind → Value → Type 0
+abbrev pub Taken : Kind → Value → Type 0
 Taken kind v = (convert_to kind v >>= fitted kind) ≡ kept v
 
-number_taken : (kind : Kind) (z : ℤ) → Taken kind (Number z) → IsNumber kind z
+pub number_taken : (kind : Kind) (z : ℤ) → Taken kind (Number z) → IsNumber kind z
 number_taken Int z e = in_int z (not_refused (is_in_kind Int z) (Number z) e)
 number_taken IntUnsigned z e = in_int_unsigned z (not_refused (is_in_kind IntUnsigned z) (Number z) e)
 number_taken BigInt z e = in_bigint z (not_refused (is_in_kind BigInt z) (Number z) e)
@@ -103,7 +103,7 @@ text_read kind t e = other_sort 2 1 (omega arith) (its_sort 1 (read_as kind t) (
 bytes_read : (kind : Kind) (b : List ℕ) → read_as kind b ≡ kept (Bytes b) → ⊥
 bytes_read kind b e = other_sort 3 1 (omega arith) (its_sort 1 (read_as kind b) (Bytes b) (read_gives kind (whole_number b)) e)
 
-text_taken : (kind : Kind) (t : List ℕ) → Taken kind (Text t) → HoldsTexts kind
+pub text_taken : (kind : Kind) (t : List ℕ) → Taken kind (Text t) → HoldsTexts kind
 text_taken Int t e = text_read Int t e
 text_taken IntUnsigned t e = text_read IntUnsigned t e
 text_taken BigInt t e = text_read BigInt t e
@@ -111,7 +111,7 @@ text_taken BigIntUnsigned t e = text_read BigIntUnsigned t e
 text_taken (VarChar n c) t e = tt
 text_taken (VarBinary n) t e = other_sort 2 3 (omega arith) (its_sort 3 (fitted (VarBinary n) (Bytes t)) (Text t) (fitted_gives (VarBinary n) (Bytes t)) e)
 
-bytes_taken : (kind : Kind) (b : List ℕ) → Taken kind (Bytes b) → HoldsBytes kind
+pub bytes_taken : (kind : Kind) (b : List ℕ) → Taken kind (Bytes b) → HoldsBytes kind
 bytes_taken Int b e = bytes_read Int b e
 bytes_taken IntUnsigned b e = bytes_read IntUnsigned b e
 bytes_taken BigInt b e = bytes_read BigInt b e
@@ -119,7 +119,7 @@ bytes_taken BigIntUnsigned b e = bytes_read BigIntUnsigned b e
 bytes_taken (VarChar n c) b e = other_sort 3 2 (omega arith) (its_sort 2 (cond (is_ascii b) (Ok (Text b)) (Err 1366) >>= fitted (VarChar n c)) (Bytes b) (ascii_gives (VarChar n c) (is_ascii b) b) e)
 bytes_taken (VarBinary n) b e = tt
 
-value_taken : (nullable : Bool) (kind : Kind) (v : Value) → assign_to (record { kind = kind; nullable = nullable }) v ≡ kept v → FitsColumn (record { kind = kind; nullable = nullable }) v
+pub value_taken : (nullable : Bool) (kind : Kind) (v : Value) → assign_to (record { kind = kind; nullable = nullable }) v ≡ kept v → FitsColumn (record { kind = kind; nullable = nullable }) v
 value_taken false kind Null e = absurd (let no : Result Value ℕ = Err 1048 in let f : no ≡ kept Null = e in cc)
 value_taken true kind Null e = refl
 value_taken nullable kind (Number z) e = number_taken kind z e

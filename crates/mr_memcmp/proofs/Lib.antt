@@ -4,3 +4,8 @@ pub mod Columns
 pub mod Fitted
 pub mod Keys
 pub mod Ranges
+pub mod UnpackTrip
+pub mod Assigned
+pub mod ColumnTrip
+pub mod ColumnTakes
+pub mod KeyTrip

@@ -5,6 +5,9 @@ ghost use Rattle.mr_types.specs.declared.definition.TableDef.{TableDef};
 ghost use Rattle.mr_types.specs.declared.row.Row.{Row};
 ghost use Rattle.mr_types.specs.Rows.{IsRowOf};
 ghost use Rattle.mr_memcmp.specs.Fitting.{AllFit};
+ghost use Rattle.mr_types.specs.declared.kind.ColumnType.{ColumnType};
+ghost use Rattle.mr_types.specs.declared.value.Value.{Value};
+ghost use Rattle.mr_memcmp.specs.ComeBack.{IsKind, IsTaken, ColumnComesBack, OnlyWrittenIsRead, KeyComesBack};
 ghost use Rattle.mr_memcmp.specs.KeyOrder.{KeysInOrder, ColumnsInOrder, KeysInRange};
 
 /// A row of a table has a value that fits for each column of it.
@@ -27,4 +30,19 @@ pub fn columns_in_order()
 /// them, are known by their keys.
 pub fn keys_in_range()
     ensures { (index : ℕ) (def : TableDef) (front more : List ℕ) (row given : Row) → IsRowOf def row → AllFit def.columns given.fields front → KeysInRange index def front more row given }
+{}
+
+/// A column that was written is read again byte for byte, whatever stands behind it.
+pub fn columns_come_back()
+    ensures { (column : ColumnType) (value : Value) → IsKind column.kind → IsTaken column value → ColumnComesBack column value }
+{}
+
+/// What is read of a column was written of a value that it takes.
+pub fn only_columns_are_read()
+    ensures { (column : ColumnType) → OnlyWrittenIsRead column }
+{}
+
+/// The key of a row is read again with its unpack data: the index number, and then each column.
+pub fn keys_come_back()
+    ensures { (index : ℕ) (def : TableDef) (row : Row) → IsRowOf def row → KeyComesBack index def row }
 {}

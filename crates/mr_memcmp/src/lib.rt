@@ -11,12 +11,25 @@
 
 mod column;
 mod encode;
+mod full;
+mod kept;
+mod key_reader;
 mod laws;
+mod number;
 mod order;
 
 pub use encode::{encode_columns, encode_key};
-pub use laws::{columns_in_order, keys_in_order, keys_in_range, rows_fit};
+pub use full::full_at;
+pub use kept::{Kept, kept_at};
+pub use key_reader::KeyReader;
+pub use laws::{
+    columns_come_back, columns_in_order, keys_come_back, keys_in_order, keys_in_range,
+    only_columns_are_read, rows_fit,
+};
+pub use number::{u32_at, u64_at};
 pub use order::compare_keys;
 
+#[cfg(test)]
+mod reading_tests;
 #[cfg(test)]
 mod tests;

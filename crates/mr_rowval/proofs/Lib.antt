@@ -1,0 +1,12 @@
+pub mod Loops
+pub mod FieldWalk
+pub mod Decoding
+pub mod Packed
+pub mod Written
+pub mod Pairs
+pub mod RowTrip
+pub mod RowAgain
+pub mod PlainTakes
+pub mod PartsTake
+pub mod RowTakes
+pub mod EntryTakes

@@ -1,0 +1,9 @@
+pub mod NullBits
+pub mod Encoding
+pub mod Packing
+pub mod Plain
+pub mod KeyParts
+pub mod RowValue
+pub mod Walking
+pub mod Decoded
+pub mod Promises
