@@ -1,0 +1,7 @@
+mod FirstDifference
+mod ChildLaws
+mod Steps
+mod Ranks
+mod SeekLaws
+mod MergeSteps
+mod Runs

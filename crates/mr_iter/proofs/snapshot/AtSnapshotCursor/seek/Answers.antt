@@ -1,0 +1,24 @@
+use Rattle.std.proofs.Common.{◌≡◌, None}
+use Rattle.mr_iter.specs.Cursors.{left, with_current}
+use Rattle.mr_base.specs.Disk.{Image, seen}
+use Rattle.mr_iter.specs.Snapshots.{shown, key_of}
+use Rattle.mr_iter.specs.SnapshotLaws.{snapshot_found}
+use Rattle.mr_iter.proofs.Runs.{run_stays, run_stop, run_image}
+use Rattle.mr_iter.proofs.snapshot.AtSnapshotCursor.seek.Goals as goal
+
+pub returns-in-Ok-settle-clause-whole : goal.returns-in-Ok-settle-clause-whole
+returns-in-Ok-settle-clause-whole g c =
+    run_stays g.C.Listed.whole (g.D.Disk.disk c.args.disk.now) (g.D.Disk.disk c.seek.new.disk) (g.D.Disk.disk c.settle.new.disk) c.args.self.now.inner c.seek.new.self c.settle.new.inner c.seek.ensures.counts.tells c.seek.ensures.same c.seek.ensures.whole c.settle.ensures.whole
+
+pub returns-in-Err-settle-clause-whole : goal.returns-in-Err-settle-clause-whole
+returns-in-Err-settle-clause-whole g c =
+    run_stays g.C.Listed.whole (g.D.Disk.disk c.args.disk.now) (g.D.Disk.disk c.seek.new.disk) (g.D.Disk.disk c.settle.new.disk) c.args.self.now.inner c.seek.new.self c.settle.new.inner c.seek.ensures.counts.tells c.seek.ensures.same c.seek.ensures.whole c.settle.ensures.whole
+
+pub returns-in-Err-settle-clause-stops : goal.returns-in-Err-settle-clause-stops
+returns-in-Err-settle-clause-stops g c =
+    run_stop g.C.Listed.whole (g.D.Disk.disk c.args.disk.now) (g.D.Disk.disk c.seek.new.disk) (g.D.Disk.disk c.settle.new.disk) c.args.self.now.inner c.seek.new.self c.settle.new.inner c.seek.ensures.counts.tells c.seek.ensures.same c.seek.ensures.whole c.seek.ensures.counts.faults c.in-Err-settle.stop c.in-Err-settle.ensures.stops
+
+pub returns-in-Ok-settle-clause-found : goal.returns-in-Ok-settle-clause-found
+returns-in-Ok-settle-clause-found g c =
+    λ told is. snapshot_found c.args.self.now.number (g.C.Listed.cursor c.args.self.now.inner) (g.C.Listed.cursor c.seek.new.self) (g.C.Listed.cursor c.settle.new.inner) c.args.key.now (seen (g.D.Disk.disk c.args.disk.now)) (g.met.C.Listed.in_order c.args.self.now.inner (seen (g.D.Disk.disk c.args.disk.now)) is).1 (c.in-Ok.ensures.found told is)
+    (run_image g.C.Listed.whole (g.D.Disk.disk c.args.disk.now) (g.D.Disk.disk c.seek.new.disk) (g.D.Disk.disk c.settle.new.disk) c.args.self.now.inner c.seek.new.self c.settle.new.inner c.seek.ensures.counts.tells c.seek.ensures.same c.seek.ensures.whole (λ (image : Image). shown c.args.self.now.number None (left (g.C.Listed.cursor c.seek.new.self) image) ≡ with_current (g.C.Listed.cursor c.settle.new.inner).current (shown c.args.self.now.number (key_of (g.C.Listed.cursor c.settle.new.inner).current) ((g.C.Listed.cursor c.settle.new.inner).rest image))) c.in-Ok-settle.ensures.settled told is)

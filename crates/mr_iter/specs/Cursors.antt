@@ -1,0 +1,52 @@
+-- What a cursor means.
+use Rattle.std.specs.Prelude.{◌≡◌, ℕ, ◌-◌, ◌≤◌, List, [], ◌∷◌, Option, Some, None}
+use Rattle.std.specs.List.{AllByRecursion}
+use Rattle.mr_base.specs.Disk.{State, Tells, Image, HasRisen}
+use Rattle.mr_base.specs.Calls.{Counts}
+use Rattle.mr_base.specs.declared.stop.Stop.{Stop}
+use Rattle.mr_base.specs.declared.stop.Stop.TheVariants.{Memory, Disk, Full, Damaged}
+use Rattle.mr_iter.specs.Versions.{Version}
+use Rattle.mr_base.specs.declared.stop.Direction.{Direction}
+
+-- A cursor: its direction, the files that it reads, its list of versions by what these files have, the version that it stands
+-- on, those behind it, how many steps are left at most, and the reads and bytes asked for since the last seek.
+pub record CursorState : Type 0 where
+  pub direction : Direction
+  pub files : List ℕ
+  pub versions : Image → List Version
+  pub current : Option Version
+  pub rest : Image → List Version
+  pub steps : ℕ
+  pub reads : ℕ
+  pub asked : ℕ
+
+-- what is left of the list, the version that it stands on first
+abbrev pub with_current : Option Version → List Version → List Version
+with_current None vs = []
+with_current (Some v) vs = v ∷ vs
+
+abbrev pub left : CursorState → Image → List Version
+left s image = with_current s.current (s.rest image)
+
+-- a move keeps what the cursor is a cursor of
+pub record SameList (old new : CursorState) : Type 0 where
+  pub direction : new.direction ≡ old.direction
+  pub files : new.files ≡ old.files
+  pub versions : (image : Image) → new.versions image ≡ old.versions image
+
+-- two images have the same in these files
+abbrev pub SameFiles : List ℕ → Image → Image → Type 0
+SameFiles files i j = AllByRecursion (λ file. i file ≡ j file) files
+
+-- what the disk counts is at most what the cursor counts
+pub record CountsStep (before after : CursorState) (old new : State) : Type 0 where
+  pub reads : before.reads ≤ after.reads
+  pub asked : before.asked ≤ after.asked
+  pub disk : Counts (after.reads - before.reads) (after.asked - before.asked) 0 old new
+
+-- a stop of a cursor and its cause; damage only where the cursor isn't whole
+abbrev pub MayStop : Type 0 → State → State → Stop → Type 0
+MayStop whole old new Memory = Unit {0}
+MayStop whole old new Disk = HasRisen old.faults new.faults
+MayStop whole old new (Full what at limit) = ⊥
+MayStop whole old new (Damaged file at) = Tells old → whole → ⊥

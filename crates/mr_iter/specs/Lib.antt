@@ -1,0 +1,9 @@
+pub mod Versions
+pub mod Cursors
+pub mod Order
+pub mod Merging
+pub mod MergeLaws
+pub mod Children
+pub mod Snapshots
+pub mod SnapshotLaws
+pub mod RunOuts

@@ -1,0 +1,91 @@
+-- Laws of the versions at a sequence number.
+use Rattle.std.specs.Prelude.{◌≡◌, ◌<◌, ℕ, Bool, true, false, cond, not, List, [], ◌∷◌, ◌++◌, Option, Some, None, is_some, IfSome, refl}
+use Rattle.std.proofs.Common.{sym, ◌∙◌, ap}
+use Rattle.std.specs.List.{AllByRecursion}
+use Rattle.std.specs.declared.cmp.Ordering.{Ordering}
+use Rattle.std.specs.declared.cmp.Ordering.TheVariants.{Less, Equal, Greater}
+use Rattle.std.specs.Cmp.Lexicographic.{slice_cmp}
+use Rattle.std.specs.Ordering.{nat_cmp, is_lt, is_eq, flip_args}
+use Rattle.std.proofs.lemmas.Cmp.{nat_list_cmp_total, alike_right}
+use Rattle.mr_base.specs.declared.stop.Direction.{Direction}
+use Rattle.mr_base.specs.declared.stop.Direction.TheVariants.{Forward, Reverse}
+use Rattle.mr_iter.specs.Versions.{Version, key_cmp, version_cmp, IsInOrder, IsAtFront, from_key}
+use Rattle.mr_iter.specs.Order.{key_total, by_key, not_before}
+use Rattle.mr_iter.specs.Cursors.{CursorState, left, with_current}
+use Rattle.mr_base.specs.Disk.{Image}
+use Rattle.mr_iter.specs.Snapshots.{shown, key_of, is_skipped, snapshot_state, each-shown, IsInOrder-shown, IsUpward, NoneSkipped, filter-shown}
+
+pub snapshot_in_order : (number : ℕ) (placed : Bool) (s : CursorState) (image : Image) → IsInOrder (version_cmp s.direction) (left s image) × IsInOrder (version_cmp s.direction) (s.versions image) →
+    IsInOrder (version_cmp s.direction) (left (snapshot_state number placed s) image) × IsInOrder (version_cmp s.direction) (shown number None (s.versions image))
+snapshot_in_order number placed s image both = (by_place placed s.current both.0, IsInOrder-shown s.direction number None (s.versions image) both.1)
+  where
+    by_place : (b : Bool) (o : Option Version) → IsInOrder (version_cmp s.direction) (with_current o (s.rest image)) → IsInOrder (version_cmp s.direction) (with_current (cond b o None) (shown number (key_of o) (s.rest image)))
+    by_place false o all = tt
+    by_place true None all = tt
+    by_place true (Some v) all = (each-shown _ number (Some v.key) (s.rest image) all.0, IsInOrder-shown s.direction number (Some v.key) (s.rest image) all.1)
+
+pub snapshot_by_files : {W : Type 0} (number : ℕ) (placed : Bool) (s : CursorState) (i j : Image) → W × (s.versions i ≡ s.versions j) × (s.rest i ≡ s.rest j) →
+    W × ((snapshot_state number placed s).versions i ≡ (snapshot_state number placed s).versions j) × ((snapshot_state number placed s).rest i ≡ (snapshot_state number placed s).rest j)
+snapshot_by_files number placed s i j same = (same.0, ap (shown number None) same.1, ap (shown number (key_of s.current)) same.2)
+
+-- a key that isn't before another one
+abbrev pub passes : Direction → List ℕ → List ℕ → Bool
+passes d key k = not (is_lt (key_cmp d k key))
+
+pub upward : (d : Direction) (key : List ℕ) (vs : List Version) → IsInOrder (version_cmp d) vs → IsUpward (passes d key) vs
+upward d key [] all = tt
+upward d key (v ∷ vs) all = ((λ yes_v. above vs yes_v all.0), upward d key vs all.1)
+  where
+    above : (ws : List Version) → passes d key v.key ≡ true → IsAtFront (version_cmp d) v ws → AllByRecursion (λ (w : Version). passes d key w.key ≡ true) ws
+    above [] yes_v front = tt
+    above (w ∷ ws) yes_v front = (
+      (let low : is_lt (key_cmp d v.key key) ≡ false = cc_not (is_lt (key_cmp d v.key key)) yes_v in
+          ap not (not_before (key_cmp d) (key_total d) v.key w.key key (by_key (key_cmp d v.key w.key) (flip_args nat_cmp v.sequence w.sequence) front.0) low)),
+      above ws yes_v front.1,
+    )
+      where
+        cc_not : (b : Bool) → not b ≡ true → b ≡ false
+        cc_not true is = sym is
+        cc_not false is = refl
+
+equal_keys : (d : Direction) (a b key : List ℕ) → slice_cmp nat_cmp a b ≡ Equal → key_cmp d a key ≡ key_cmp d b key
+equal_keys Forward a b key e = nat_list_cmp_total.congr a b key e
+equal_keys Reverse a b key e = alike_right nat_list_cmp_total a b key e
+
+pub apart : (d : Direction) (key : List ℕ) (v w : Version) → passes d key v.key ≡ false → passes d key w.key ≡ true → is_skipped (Some v.key) w.key ≡ false
+apart d key v w no_v yes_w = by_order (slice_cmp nat_cmp v.key w.key) refl
+  where
+    by_order : (o : Ordering) → slice_cmp nat_cmp v.key w.key ≡ o → is_eq o ≡ false
+    by_order Less e = refl
+    by_order Greater e = refl
+    by_order Equal e = let same : passes d key v.key ≡ passes d key w.key = ap (λ (o : Ordering). not (is_lt o)) (equal_keys d v.key w.key key e) in cc
+
+none_skipped : (d : Direction) (key : List ℕ) (vs : List Version) → NoneSkipped (passes d key) None vs
+none_skipped d key [] = tt
+none_skipped d key (v ∷ vs) = ((λ _. refl), none_skipped d key vs)
+
+pub from_key-shown : (d : Direction) (number : ℕ) (key : List ℕ) (vs : List Version) → IsInOrder (version_cmp d) vs → from_key d key (shown number None vs) ≡ shown number None (from_key d key vs)
+from_key-shown d number key vs all = filter-shown number (passes d key) (apart d key) None vs (upward d key vs all) (none_skipped d key vs)
+
+-- after a seek of the inner cursor and the way to the first version that is shown
+pub snapshot_found : (number : ℕ) (s t u : CursorState) (key : List ℕ) (image : Image) → IsInOrder (version_cmp s.direction) (s.versions image) → left t image ≡ from_key s.direction key (s.versions image) →
+    shown number None (left t image) ≡ with_current u.current (shown number (key_of u.current) (u.rest image)) → left (snapshot_state number true u) image ≡ from_key s.direction key (shown number None (s.versions image))
+snapshot_found number s t u key image ordered found settled = sym settled ∙ ap (shown number None) found ∙ sym (from_key-shown s.direction number key (s.versions image) ordered)
+
+-- and after a step of it from a version with the skipped key
+pub snapshot_moved : (number : ℕ) (s t u : CursorState) (skip : Option (List ℕ)) (image : Image) → skip ≡ key_of s.current → left t image ≡ s.rest image →
+    shown number skip (left t image) ≡ with_current u.current (shown number (key_of u.current) (u.rest image)) → left (snapshot_state number true u) image ≡ shown number (key_of s.current) (s.rest image)
+snapshot_moved number s t u skip image same moved settled = sym settled ∙ ap (shown number skip) moved ∙ ap (λ (o : Option (List ℕ)). shown number o (s.rest image)) same
+
+pub skip_is : (o : Option Version) (k : List ℕ) → is_some o ≡ true → IfSome o (λ v. k ≡ v.key) → Some k ≡ key_of o
+skip_is None k is same = cc
+skip_is (Some v) k is same = ap Some same
+
+pub skip_kept : (b : Bool) (o : Option Version) (items cleared k : List ℕ) → is_some (cond b o None) ≡ true → items ≡ cleared ++ k → cleared ≡ [] → IfSome o (λ v. k ≡ v.key) → Some items ≡ key_of o
+skip_kept false o items cleared k is e empty same = cc
+skip_kept true o items cleared k is e empty same = ap Some (e ∙ ap (λ (zs : List ℕ). zs ++ k) empty) ∙ skip_is o k is same
+
+-- steps are left where it stands on a version
+pub snapshot_going : (number : ℕ) (placed : Bool) (s : CursorState) → (is_some s.current ≡ true → 0 < s.steps) → is_some (snapshot_state number placed s).current ≡ true → 0 < (snapshot_state number placed s).steps
+snapshot_going number false s law is = cc
+snapshot_going number true s law is = law is

@@ -1,0 +1,75 @@
+//! A finite ordered list of versions, and a place in it.
+ghost use Rattle.std.specs.Prelude.{◌≡◌, ◌<◌, ℕ, IsTrue, IsSome, IfSome, IfErr, OnOk, OnErr, is_some, is_none, unwrap_or, [], None};
+ghost use Rattle.mr_base.specs.Disk.{Tells, Image, seen};
+ghost use Rattle.mr_base.specs.Calls.{Same, Counts};
+ghost use Rattle.mr_iter.specs.Versions.{IsInOrder, version_cmp, from_key};
+ghost use Rattle.mr_iter.specs.Cursors.{CursorState, left, SameList, SameFiles, CountsStep, MayStop};
+
+use mr_base::{Disk, Stop};
+
+/// What a cursor means, whatever disk it reads: a list of versions, by key in its direction and then by sequence number, the
+/// greatest first, and a place in the list.
+pub trait Listed {
+    ghost cursor: { Self → CursorState };
+
+    /// Whether it is a whole cursor of what the files in this image have; damage is told only where it isn't.
+    ghost whole: { Self → Image → Type 0 };
+
+    /// Whether it stands behind the last version.
+    fn at_end(&self) -> bool
+        ensures { result ≡ is_none (cursor self.now).current };
+
+    /// The key of the version that it stands on.
+    fn key(&self) -> &[u8]
+        requires { IsSome (cursor self.now).current }
+        ensures { IfSome (cursor self.now).current (λ v. result.now ≡ v.key) };
+
+    /// The value, empty for a deletion.
+    fn value(&self) -> &[u8]
+        requires { IsSome (cursor self.now).current }
+        ensures { IfSome (cursor self.now).current (λ v. result.now ≡ unwrap_or v.put []) };
+
+    /// The sequence number.
+    fn sequence(&self) -> u64
+        requires { IsSome (cursor self.now).current }
+        ensures { IfSome (cursor self.now).current (λ v. result ≡ v.sequence) };
+
+    /// False for a deletion.
+    fn is_put(&self) -> bool
+        requires { IsSome (cursor self.now).current }
+        ensures { IfSome (cursor self.now).current (λ v. result ≡ is_some v.put) };
+
+    /// What is left of a whole cursor is in order, and so is its list.
+    ghost in_order: { (c : Self) (image : Image) → whole c image → IsInOrder (version_cmp (cursor c).direction) (left (cursor c) image) × IsInOrder (version_cmp (cursor c).direction) ((cursor c).versions image) };
+
+    /// The list is what its files say.
+    ghost by_files: { (c : Self) (i j : Image) → SameFiles (cursor c).files i j → whole c i → whole c j × ((cursor c).versions i ≡ (cursor c).versions j) × ((cursor c).rest i ≡ (cursor c).rest j) };
+
+    /// Steps are left where it stands on a version.
+    ghost going: { (c : Self) → is_some (cursor c).current ≡ Rattle.std.specs.Prelude.true → 0 < (cursor c).steps };
+}
+
+/// Moves over a list of versions. No move changes what is on the disk. After an error it stands at the end.
+pub trait Cursor<D: Disk>: Listed {
+    /// Goes to the first version whose key isn't before this key. Takes memory.
+    fn seek(&mut self, disk: &mut D, key: &[u8]) -> Result<(), Stop>
+        ensures list { SameList (Self.cursor self.old) (Self.cursor self.new) }
+        ensures counts { Counts (Self.cursor self.new).reads (Self.cursor self.new).asked 0 (D.disk disk.old) (D.disk disk.new) }
+        ensures same { Tells (D.disk disk.old) → Same (D.disk disk.old) (D.disk disk.new) }
+        ensures stops { IfErr result (MayStop (Self.whole self.old (seen (D.disk disk.old))) (D.disk disk.old) (D.disk disk.new)) }
+        ensures at_end { OnErr result ((Self.cursor self.new).current ≡ None) }
+        ensures whole { Tells (D.disk disk.old) → Self.whole self.old (seen (D.disk disk.old)) → Self.whole self.new (seen (D.disk disk.old)) }
+        ensures found { Tells (D.disk disk.old) → Self.whole self.old (seen (D.disk disk.old)) → OnOk result (left (Self.cursor self.new) (seen (D.disk disk.old)) ≡ from_key (Self.cursor self.old).direction key.now ((Self.cursor self.old).versions (seen (D.disk disk.old)))) };
+
+    /// Goes one version on. Takes memory.
+    fn next(&mut self, disk: &mut D) -> Result<(), Stop>
+        requires { IsSome (Self.cursor self.old).current }
+        ensures list { SameList (Self.cursor self.old) (Self.cursor self.new) }
+        ensures counts { CountsStep (Self.cursor self.old) (Self.cursor self.new) (D.disk disk.old) (D.disk disk.new) }
+        ensures same { Tells (D.disk disk.old) → Same (D.disk disk.old) (D.disk disk.new) }
+        ensures stops { IfErr result (MayStop (Self.whole self.old (seen (D.disk disk.old))) (D.disk disk.old) (D.disk disk.new)) }
+        ensures at_end { OnErr result ((Self.cursor self.new).current ≡ None) }
+        ensures steps { OnOk result ((Self.cursor self.new).steps < (Self.cursor self.old).steps) }
+        ensures whole { Tells (D.disk disk.old) → Self.whole self.old (seen (D.disk disk.old)) → Self.whole self.new (seen (D.disk disk.old)) }
+        ensures moved { Tells (D.disk disk.old) → Self.whole self.old (seen (D.disk disk.old)) → OnOk result (left (Self.cursor self.new) (seen (D.disk disk.old)) ≡ (Self.cursor self.old).rest (seen (D.disk disk.old))) };
+}

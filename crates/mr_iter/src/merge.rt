@@ -1,0 +1,114 @@
+//! Many cursors as one.
+ghost use Rattle.std.specs.Prelude.{◌≡◌, ◌<◌, ◌≤◌, ◌+◌, ℕ, [], IsTrue, IsSome, IfOk, OnOk, length, map, None};
+ghost use Rattle.std.specs.List.{AllByRecursion};
+ghost use Rattle.mr_iter.specs.Cursors.{CursorState};
+ghost use Rattle.mr_base.specs.Disk.{Image};
+ghost use Rattle.mr_iter.specs.Merging.{merge_state, first_of, IsMergeQueue, IsOneDirection};
+ghost use Rattle.mr_iter.specs.MergeLaws.{IsMergeQueue-prop, IsOneDirection-prop, merge_in_order, merge_by_files, merge_going};
+
+use crate::children::seek_all;
+use crate::cursor::{Cursor, Listed};
+use crate::queue::{fill_queue, put_if_live};
+use mr_base::{Direction, Disk, Memory, Stop};
+use smallvec::SmallVec;
+
+#[derive(Drop)]
+pub struct Merge<C: Listed> {
+    children: Vec<C>,
+    order: SmallVec<usize, 16>,
+    direction: Direction,
+    ghost one_direction: { IsOneDirection direction (map C.cursor children.items) } by { IsOneDirection-prop direction (map C.cursor children.items) },
+    ghost queue: { IsMergeQueue direction (map C.cursor children.items) order.items } by { IsMergeQueue-prop direction (map C.cursor children.items) order.items },
+}
+
+impl<C: Listed> Listed for Merge<C> {
+    ghost use Rattle.std.specs.List.{AllByRecursion};
+
+    ghost cursor = { λ m. merge_state m.direction m.order.items (map C.cursor m.children.items) };
+
+    ghost whole = { λ m image. AllByRecursion (λ c. C.whole c image) m.children.items };
+
+    fn at_end(&self) -> bool {
+        self.order.is_empty()
+    }
+
+    fn key(&self) -> &[u8] {
+        front::<C>(&self.children, &self.order).key()
+    }
+
+    fn value(&self) -> &[u8] {
+        front::<C>(&self.children, &self.order).value()
+    }
+
+    fn sequence(&self) -> u64 {
+        front::<C>(&self.children, &self.order).sequence()
+    }
+
+    fn is_put(&self) -> bool {
+        front::<C>(&self.children, &self.order).is_put()
+    }
+
+    ghost in_order = { λ m image whole. merge_in_order C.cursor C.whole C.in_order m.direction m.children.items m.order.items image m.one_direction m.queue whole };
+
+    ghost by_files = { λ m i j same whole. merge_by_files C.cursor C.whole C.by_files m.direction m.children.items m.order.items i j same whole };
+
+    ghost going = { λ m is. merge_going C.cursor C.going m.direction m.children.items m.order.items is };
+}
+
+impl<C: Listed> Merge<C> {
+    pub fn new(children: Vec<C>, direction: Direction) -> Result<Merge<C>, Memory>
+        requires { IsOneDirection direction (map C.cursor children.items) }
+        ensures state { IfOk result (λ m. ⟦<Merge<C> as Listed>⟧.cursor m ≡ merge_state direction [] (map C.cursor children.items)) }
+        ensures whole { (image : Image) → AllByRecursion (λ c. C.whole c image) children.items → IfOk result (λ m. ⟦<Merge<C> as Listed>⟧.whole m image) }
+    {
+        let order = SmallVec::new(*children.allocator());
+        Ok(Merge {
+            children,
+            order,
+            direction,
+        })
+    }
+}
+
+/// The child that stands on the first version.
+fn front<'a, C: Listed>(children: &'a [C], order: &SmallVec<usize, 16>) -> &'a C
+    requires { IsSome (first_of (map C.cursor children.now) order.now.items) }
+    ensures { (C.cursor result.now).current ≡ first_of (map C.cursor children.now) order.now.items }
+{
+    &children[order[0]]
+}
+
+impl<D: Disk, C: Cursor<D>> Cursor<D> for Merge<C> {
+    fn seek(&mut self, disk: &mut D, key: &[u8]) -> Result<(), Stop> {
+        self.order.clear();
+        match seek_all(disk, &mut self.children, key) {
+            Ok(()) => {}
+            Err(stop) => return Err(stop),
+        }
+        match fill_queue::<C>(self.direction, &self.children, &mut self.order) {
+            Ok(()) => Ok(()),
+            Err(stop) => {
+                self.order.clear();
+                Err(stop)
+            }
+        }
+    }
+
+    fn next(&mut self, disk: &mut D) -> Result<(), Stop> {
+        let j = self.order.remove(0);
+        match self.children[j].next(disk) {
+            Ok(()) => {}
+            Err(stop) => {
+                self.order.clear();
+                return Err(stop);
+            }
+        }
+        match put_if_live::<C>(self.direction, &self.children, &mut self.order, j) {
+            Ok(()) => Ok(()),
+            Err(stop) => {
+                self.order.clear();
+                Err(stop)
+            }
+        }
+    }
+}

@@ -1,0 +1,6 @@
+mod ChunkLaws
+mod Filling
+mod Places
+mod Ordered
+mod Inserting
+mod Stands

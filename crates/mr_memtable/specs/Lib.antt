@@ -1,0 +1,5 @@
+pub mod Slots
+pub mod Chunks
+pub mod Tables
+pub mod Props
+pub mod Standing

@@ -1,0 +1,127 @@
+//! A cursor over a memtable.
+ghost use Rattle.std.specs.Prelude.{◌≡◌, ◌<◌, ◌≤◌, ℕ, Some, IsSome, refl, length, get_or};
+ghost use Rattle.mr_memtable.specs.Slots.{version_at, Fits};
+ghost use Rattle.mr_memtable.specs.Chunks.{sizes};
+ghost use Rattle.mr_memtable.specs.Tables.{IsStanding, flat, standing_at, versions_in};
+ghost use Rattle.mr_memtable.specs.Props.{IsStanding-prop};
+ghost use Rattle.mr_memtable.specs.Standing.{standing_in_order, standing_going};
+
+use crate::search::{Place, find};
+use crate::slot::Slot;
+use crate::table::Table;
+use mr_base::{Disk, Stop};
+use mr_iter::{Cursor, Listed};
+
+/// A cursor over the versions in memory. It reads no file and takes no memory.
+#[derive(Drop)]
+pub struct MemCursor<'a> {
+    table: &'a Table,
+    chunk: usize,
+    at: usize,
+    ghost standing: { IsStanding (sizes table.now.chunks.items) chunk at } by { IsStanding-prop (sizes table.now.chunks.items) chunk at },
+}
+
+impl<'a> MemCursor<'a> {
+    /// At the first version.
+    pub fn new(table: &'a Table) -> MemCursor<'a>
+        ensures { ⟦<MemCursor<'a> as Listed>⟧.cursor result ≡ standing_at table.now.direction (versions_in table.now.bytes.items table.now.chunks.items) 0 }
+    {
+        MemCursor {
+            table,
+            chunk: 0,
+            at: 0,
+        }
+    }
+
+    fn slot(&self) -> &Slot
+        requires { IsSome (⟦<MemCursor<'a> as Listed>⟧.cursor self.now).current }
+        ensures fits { Fits self.now.table.now.bytes.items result.now }
+        ensures current { (⟦<MemCursor<'a> as Listed>⟧.cursor self.now).current ≡ Some (version_at self.now.table.now.bytes.items result.now) }
+    {
+        &self.table.chunks[self.chunk].slots[self.at]
+    }
+}
+
+/// The same place on a slot: not behind the last one of a chunk.
+fn stand(table: &Table, place: Place) -> Place
+    requires within { place.chunk ≤ length table.now.chunks.items }
+    requires at { place.chunk < length table.now.chunks.items → place.at ≤ get_or (sizes table.now.chunks.items) place.chunk 0 }
+    requires behind { length table.now.chunks.items ≤ place.chunk → place.at < 1 }
+    ensures standing { IsStanding (sizes table.now.chunks.items) result.chunk result.at }
+    ensures flat { flat (sizes table.now.chunks.items) result.chunk result.at ≡ flat (sizes table.now.chunks.items) place.chunk place.at }
+{
+    if place.chunk < table.chunks.len() && place.at >= table.chunks[place.chunk].slots.len() {
+        return Place {
+            chunk: place.chunk + 1,
+            at: 0,
+        };
+    }
+    place
+}
+
+impl<'a> Listed for MemCursor<'a> {
+    ghost cursor = { λ c. standing_at c.table.now.direction (versions_in c.table.now.bytes.items c.table.now.chunks.items) (flat (sizes c.table.now.chunks.items) c.chunk c.at) };
+
+    ghost whole = { λ c image. Unit {0} };
+
+    fn at_end(&self) -> bool {
+        self.chunk >= self.table.chunks.len()
+    }
+
+    fn key(&self) -> &[u8] {
+        let slot = self.slot();
+        &self.table.bytes[slot.start..slot.middle]
+    }
+
+    fn value(&self) -> &[u8] {
+        let slot = self.slot();
+        if slot.is_put {
+            &self.table.bytes[slot.middle..slot.end]
+        } else {
+            &[]
+        }
+    }
+
+    fn sequence(&self) -> u64 {
+        self.slot().sequence
+    }
+
+    fn is_put(&self) -> bool {
+        self.slot().is_put
+    }
+
+    ghost in_order = { λ c image whole. standing_in_order c.table.now.direction (versions_in c.table.now.bytes.items c.table.now.chunks.items) (flat (sizes c.table.now.chunks.items) c.chunk c.at) c.table.now.kept.ordered };
+
+    ghost by_files = { λ c i j same whole. (tt, refl, refl) };
+
+    ghost going = { λ c is. standing_going (versions_in c.table.now.bytes.items c.table.now.chunks.items) (flat (sizes c.table.now.chunks.items) c.chunk c.at) is };
+}
+
+impl<'a, D: Disk> Cursor<D> for MemCursor<'a> {
+    fn seek(&mut self, _disk: &mut D, key: &[u8]) -> Result<(), Stop> {
+        let found = find(
+            &self.table.bytes,
+            &self.table.chunks,
+            self.table.direction,
+            key,
+            u64::MAX,
+        );
+        let place = stand(self.table, found);
+        self.chunk = place.chunk;
+        self.at = place.at;
+        Ok(())
+    }
+
+    fn next(&mut self, _disk: &mut D) -> Result<(), Stop> {
+        let place = stand(
+            self.table,
+            Place {
+                chunk: self.chunk,
+                at: self.at + 1,
+            },
+        );
+        self.chunk = place.chunk;
+        self.at = place.at;
+        Ok(())
+    }
+}

@@ -1,0 +1,16 @@
+//! Versions in memory, in order: what was written and isn't in a run yet.
+#![tactic(auto)]
+
+mod chunks;
+mod cursor;
+mod memtable;
+mod search;
+mod slot;
+mod spare;
+mod table;
+
+pub use cursor::MemCursor;
+pub use memtable::Memtable;
+
+#[cfg(test)]
+mod tests;

@@ -1,0 +1,88 @@
+//! A memtable as its callers see it.
+ghost use Rattle.std.specs.Prelude.{◌≡◌, ◌==◌, ◌<◌, ◌≤◌, ◌+◌, [], length, unwrap_or, OnOk, OnErr};
+ghost use Rattle.std.specs.Option.{option_map};
+ghost use Rattle.mr_base.specs.Disk.{Image};
+ghost use Rattle.mr_iter.specs.Versions.{as_version, place_in, version_cmp};
+ghost use Rattle.mr_memtable.specs.Tables.{at_beginning};
+
+use crate::cursor::MemCursor;
+use crate::table::Table;
+use mr_base::{Direction, Memory};
+use mr_iter::Listed;
+use std::alloc::Global;
+use std::marker::Model;
+
+/// Versions in memory, in the order of a direction, and room for so many entries and bytes of keys and values more.
+#[derive(Drop)]
+pub struct Memtable {
+    table: Table,
+}
+
+impl Model for Memtable {
+    ghost use Rattle.mr_memtable.specs.Tables.{MemState, versions_in};
+
+    ghost Value = { MemState };
+
+    ghost view = { λ m. record { direction = m.table.direction; versions = versions_in m.table.bytes.items m.table.chunks.items; entries = m.table.entries; bytes = m.table.free } };
+}
+
+impl Memtable {
+    /// No version, and no room.
+    pub fn new(alloc: Global, direction: Direction) -> Memtable
+        ensures direction { result.direction ≡ direction }
+        ensures versions { result.versions ≡ [] }
+        ensures entries { result.entries ≡ 0 }
+        ensures bytes { result.bytes ≡ 0 }
+    {
+        Memtable {
+            table: Table::new(alloc, direction),
+        }
+    }
+
+    /// Makes room for so many entries, and so many bytes of keys and values. Takes memory; after an error the room is what it was.
+    pub fn reserve(&mut self, entries: usize, bytes: usize) -> Result<(), Memory>
+        ensures direction { self.new.direction ≡ self.old.direction }
+        ensures versions { self.new.versions ≡ self.old.versions }
+        ensures entries { OnOk result (self.new.entries ≡ entries) }
+        ensures bytes { OnOk result (self.new.bytes ≡ bytes) }
+        ensures same_entries { OnErr result (self.new.entries ≡ self.old.entries) }
+        ensures same_bytes { OnErr result (self.new.bytes ≡ self.old.bytes) }
+    {
+        self.table.reserve(entries, bytes)
+    }
+
+    /// Adds a version; `put` is None for a deletion. Of the same key and sequence number the later one stands in front. Takes no
+    /// memory, only room.
+    pub fn insert(&mut self, key: &[u8], sequence: u64, put: Option<&[u8]>)
+        requires entries { 0 < self.old.entries }
+        requires bytes { length key.now + length (unwrap_or (option_map (λ v. v.now) put) []) ≤ self.old.bytes }
+        ensures direction { self.new.direction ≡ self.old.direction }
+        ensures versions { self.new.versions ≡ place_in (version_cmp self.old.direction) (as_version key.now sequence (option_map (λ v. v.now) put.entry)) self.old.versions }
+        ensures entries { self.new.entries + 1 ≡ self.old.entries }
+        ensures bytes { self.new.bytes + (length key.now + length (unwrap_or (option_map (λ v. v.now) put.entry) [])) ≡ self.old.bytes }
+    {
+        self.table.insert(key, sequence, put);
+    }
+
+    /// A cursor at the first version.
+    pub fn cursor<'a>(&'a self) -> MemCursor<'a>
+        ensures state { ⟦<MemCursor<'a> as Listed>⟧.cursor result ≡ at_beginning self.now }
+        ensures whole { (image : Image) → ⟦<MemCursor<'a> as Listed>⟧.whole result image }
+    {
+        MemCursor::new(&self.table)
+    }
+
+    /// How many versions it has.
+    pub fn len(&self) -> usize
+        ensures { result ≡ length self.now.versions }
+    {
+        self.table.count
+    }
+
+    /// Whether it has none.
+    pub fn is_empty(&self) -> bool
+        ensures { result ≡ (length self.now.versions == 0) }
+    {
+        self.table.count == 0
+    }
+}
