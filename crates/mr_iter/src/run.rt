@@ -35,6 +35,9 @@ pub trait RunOut<D: Disk> {
     /// Whether these bytes are the run with so many entries that has this list.
     ghost run: { Direction → ℕ → List ℕ → List Version → Type 0 };
 
+    /// Bytes are a run of one list at the most, and the number is that of its entries.
+    ghost one_run: { (d : Direction) (n m : ℕ) (bytes : List ℕ) (vs ws : List Version) → run d n bytes vs → run d m bytes ws → (n ≡ m) × (vs ≡ ws) };
+
     /// Begins a run in the file with this number. Nothing is touched before the first `add`.
     fn begin(&mut self, file: u64)
         ensures direction { (out self.new).direction ≡ (out self.old).direction }
@@ -77,6 +80,7 @@ pub trait RunOut<D: Disk> {
         ensures named { IfOk result (λ i. (out self.old).file ≡ Some i.file) }
         ensures length { Tells (D.disk disk.old) → IfOk result (λ i. Rattle.std.specs.Prelude.length (file_of (D.disk disk.new) i.file).bytes ≡ i.length) }
         ensures written { Tells (D.disk disk.old) → IsInOrder (version_cmp (out self.old).direction) ((out self.old).added (seen (D.disk disk.old))) → IfOk result (λ i. run (out self.old).direction i.entries (file_of (D.disk disk.new) i.file).bytes ((out self.old).added (seen (D.disk disk.old)))) }
+        ensures entries { Tells (D.disk disk.old) → IsInOrder (version_cmp (out self.old).direction) ((out self.old).added (seen (D.disk disk.old))) → IfOk result (λ i. i.entries ≡ Rattle.std.specs.Prelude.length ((out self.old).added (seen (D.disk disk.old)))) }
         ensures durable { Tells (D.disk disk.old) → IfOk result (λ i. IsAtRest (file_of (D.disk disk.new) i.file)) };
 
     /// The list is what the file of its run says.

@@ -19,6 +19,7 @@ use Rattle.mr_types.specs.declared.row.Schema.TheVariants.{CreateTable, DropTabl
 use Rattle.mr_types.specs.declared.row.CommitBody.{CommitBody}
 use Rattle.mr_types.specs.declared.row.CommitBody.TheVariants as body
 use Rattle.mr_types.specs.declared.row.Commit.{Commit}
+use Rattle.mr_types.specs.Grammatical.{is_table_text, is_secondary_text}
 use Rattle.mr_types.specs.Values.{assign_to, is_equal}
 use Rattle.mr_spec.specs.Rows.{same_primary, is_visible, visible, table_name}
 use Rattle.mr_spec.specs.Checks.{check, check_key}
@@ -91,13 +92,13 @@ are_lawful moment tables (c ∷ cs) = is_lawful_change moment tables c && are_la
 
 -- ---- definitions
 
--- a definition that `check` gives
+-- a definition that `check` gives for a text that a statement may have
 abbrev pub IsChecked : TableDef → Type 0
-IsChecked def = (text : TableText) × (check text ≡ Ok def)
+IsChecked def = (text : TableText) × (is_table_text text ≡ true) × (check text ≡ Ok def)
 
--- a key that `check_key` gives
+-- a key that `check_key` gives for a text that a statement may have
 abbrev pub IsCheckedKey : TableDef → IndexDef → Type 0
-IsCheckedKey def key = (text : KeyText) × (check_key def [] text ≡ Ok key)
+IsCheckedKey def key = (text : KeyText) × (is_secondary_text text ≡ true) × (check_key def [] text ≡ Ok key)
 
 -- the table is there, and P holds of it
 abbrev pub IfTable : List ℕ → List Table → (Table → Type 0) → Type 0

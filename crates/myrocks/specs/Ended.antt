@@ -64,6 +64,16 @@ KeepsDamaged old new EmitFault = Unit {0}
 KeepsDamaged old new SourceFault = Unit {0}
 KeepsDamaged old new TooLong = Unit {0}
 
+-- a run that ends because of damage has taken nothing of the script and replied nothing
+abbrev pub IsQuiet : Ending → ℕ → ℕ → Type 0
+IsQuiet (Stopped Memory) taken statements = Unit {0}
+IsQuiet (Stopped Disk) taken statements = Unit {0}
+IsQuiet (Stopped (Full what at limit)) taken statements = Unit {0}
+IsQuiet (Stopped (Damaged file at)) taken statements = (taken ≡ 0) × (statements ≡ 0)
+IsQuiet EmitFault taken statements = Unit {0}
+IsQuiet SourceFault taken statements = Unit {0}
+IsQuiet TooLong taken statements = Unit {0}
+
 -- what is reported of an ending, and its status
 abbrev pub reported : Ending → Option Stop
 reported (Stopped stop) = Some stop

@@ -1,6 +1,6 @@
 //! The top call.
 
-ghost use Rattle.std.specs.Prelude.{◌≡◌, ◌≢◌, ◌≤◌, ◌↔◌, true, [], List, IsTrue, OnOk, IfErr, map, string_bytes, if◌then◌else◌};
+ghost use Rattle.std.specs.Prelude.{◌≡◌, ◌≢◌, ◌⊎◌, ◌≤◌, ◌↔◌, true, [], List, IsTrue, OnOk, IfErr, map, string_bytes, if◌then◌else◌};
 ghost use Rattle.mr_base.specs.Disk.{Tells, HasRisen, NothingPending, present, seen, file_of};
 ghost use Rattle.mr_base.specs.Calls.{Same};
 ghost use Rattle.mr_gate.specs.Log.{is_damaged_from};
@@ -9,7 +9,7 @@ ghost use Rattle.mr_words.specs.Form.{IsRunForm};
 ghost use Rattle.myrocks.specs.Causes.{GoesOn, KeepsOthers};
 ghost use Rattle.myrocks.specs.Folder.{StandsFor, IsValid};
 ghost use Rattle.myrocks.specs.Headline.{Headline, IsReported};
-ghost use Rattle.myrocks.specs.Ended.{RunsWhole, IsRunCause, IsServed, KeepsDamaged, reported, status};
+ghost use Rattle.myrocks.specs.Ended.{RunsWhole, IsRunCause, IsServed, KeepsDamaged, IsQuiet, reported, status};
 ghost use Rattle.myrocks.specs.Reading.{IsTaken};
 
 use crate::ending::Ending;
@@ -79,6 +79,7 @@ fn run_all<S: Source, H: Host, C: Clock>(
     ensures cause { IfErr result (IsRunCause (S.source source.old) (S.source source.new) (H.disk host.old) (H.disk host.new) report.new.taken) }
     ensures goes_on { GoesOn (H.disk host.old) (H.disk host.new) }
     ensures kept { IfErr result (KeepsDamaged (H.disk host.old) (H.disk host.new)) }
+    ensures quiet { IfErr result (λ e. IsQuiet e report.new.taken report.new.statements) }
     ensures valid { Tells (H.disk host.old) → IsServed result (IsValid (seen (H.disk host.old))) }
 {
     let mut shell = Shell {
@@ -122,7 +123,7 @@ pub fn run<S: Source, H: Host, C: Clock>(
     ensures served { result ≢ 2 → result ≢ 3 → result ≢ 5 → result ≢ 7 → Tells (H.disk host.old) → IsValid (seen (H.disk host.old)) }
     ensures too_long { result ≡ 8 → report.new.taken ≡ 1073741825 }
     ensures reported { IsReported (H.disk host.old) (H.disk host.new) result report.new.stop }
-    ensures nothing_reported { result ≡ 2 → (report.new.taken ≡ 0) × (report.new.statements ≡ 0) }
+    ensures nothing_reported { (result ≡ 2) ⊎ (result ≡ 7) → (report.new.taken ≡ 0) × (report.new.statements ≡ 0) }
     ensures taken { IsTaken (S.source source.old) (S.source source.new) report.new.taken }
 {
     *report = Report {

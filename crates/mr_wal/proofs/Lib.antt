@@ -1,0 +1,5 @@
+mod FieldLaws
+mod Batches
+mod OperationLaws
+mod RecordLaws
+mod WritingLaws

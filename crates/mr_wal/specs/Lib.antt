@@ -1,0 +1,5 @@
+pub mod Fields
+pub mod Operations
+pub mod EngineLog
+pub mod Given
+pub mod Fitting

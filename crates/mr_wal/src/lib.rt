@@ -1,0 +1,17 @@
+//! The records of the engine log: batches of puts and deletions, prepared or plain, as bytes.
+#![tactic(auto)]
+
+mod fields;
+mod operation;
+mod read;
+mod record;
+mod stop;
+mod write;
+
+pub use operation::{Batch, Operation};
+pub use read::read_record;
+pub use record::{WalBody, WalRecord};
+pub use write::write_record;
+
+#[cfg(test)]
+mod tests;
