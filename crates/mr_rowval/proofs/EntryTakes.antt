@@ -36,14 +36,14 @@ pub went : {A B : Type 0} (r : Result A ℕ) (f : A → Result B ℕ) (y : B) �
 went (Ok x) f y e = (x, refl, e)
 went (Err left) f y e = absurd cc
 
-same_ok : {A : Type 0} (x y : A) → (let a : Result A ℕ = Ok x in a) ≡ (let b : Result A ℕ = Ok y in b) → x ≡ y
+pub same_ok : {A : Type 0} (x y : A) → (let a : Result A ℕ = Ok x in a) ≡ (let b : Result A ℕ = Ok y in b) → x ≡ y
 same_ok x y e = cc
 
 pub end_takes : {A : Type 0} (x y : A) (rest : List ℕ) → ended x rest ≡ Ok y → (rest ≡ []) × (x ≡ y)
 end_takes x y [] e = (refl, same_ok x y e)
 end_takes x y (b ∷ rest) e = absurd cc
 
-further_takes : {A : Type 0} (more : ℕ) (r : Result A ℕ) (x : A) → further more r ≡ Ok x → r ≡ Ok x
+pub further_takes : {A : Type 0} (more : ℕ) (r : Result A ℕ) (x : A) → further more r ≡ Ok x → r ≡ Ok x
 further_takes more (Ok y) x e = e
 further_takes more (Err left) x e = absurd cc
 
@@ -59,7 +59,7 @@ no_number = None
 abbrev Wanted : Bool → List ℕ → Option ℕ → List ℕ → Type 0
 Wanted wanted bytes o rest = (bytes ≡ hidden_bytes o ++ rest) × IsWanted wanted o
 
-abbrev number_ok : ℕ → List ℕ → ReadNumber
+abbrev pub number_ok : ℕ → List ℕ → ReadNumber
 number_ok n rest = Ok (n, rest)
 
 some_wanted : (bytes : List ℕ) (r : ReadNumber) (o : Option ℕ) (rest : List ℕ) → as_some r ≡ wanted_ok o rest → (n : ℕ) × (r ≡ number_ok n rest) × (Some n ≡ o)
@@ -107,7 +107,7 @@ key_takes hidden columns places key body number are read =
 
 -- ---- the columns
 
-all_at : (P : ℕ → Type 0) (places : List ℕ) (q : ℕ) → AllByRecursion P places → is_in places q ≡ true → P q
+pub all_at : (P : ℕ → Type 0) (places : List ℕ) (q : ℕ) → AllByRecursion P places → is_in places q ≡ true → P q
 all_at P [] q h there = absurd cc
 all_at P (p ∷ places) q h there =
     elim (cases_eq p q) [
@@ -143,7 +143,7 @@ pub record ValueTaken (columns : List ColumnDef) (places key after nulls : List 
   pub fields : AreFields columns values
   pub written : nulls ≡ null_bits (null_flags columns values) ++ (parts_unpack columns values places ++ fields_bytes places 0 columns values)
 
-taken_of : (column : Option ColumnDef) (value : Option Value) (c : ColumnDef) (v : Value) → column ≡ Some c → value ≡ Some v → TakesPart column value → IsTaken c.ty v
+pub taken_of : (column : Option ColumnDef) (value : Option Value) (c : ColumnDef) (v : Value) → column ≡ Some c → value ≡ Some v → TakesPart column value → IsTaken c.ty v
 taken_of column value c v cs vs takes =
     let one : TakesPart (some_column c) value = subst (λ (o : Option ColumnDef). TakesPart o value) cs takes in
     subst (λ (o : Option Value). TakesPart (some_column c) o) vs one
@@ -194,17 +194,17 @@ column_there (Some p) row place s c e test =
     let same : p ≡ place = cc in
     ap (slice_get row.fields) (sym same) ∙ stamp_there (slice_get row.fields p) row.stamp s e test
 
-stamp_takes : (ttl : Option Ttl) (row : Row) → is_stamp_of ttl row ≡ true → IsStampOf ttl row
+pub stamp_takes : (ttl : Option Ttl) (row : Row) → is_stamp_of ttl row ≡ true → IsStampOf ttl row
 stamp_takes None row test = tt
 stamp_takes (Some ttl) row test = λ place s c e. column_there ttl.column row place s c e test
 
-abbrev ReadRow : Type 0
+abbrev pub ReadRow : Type 0
 ReadRow = Result Row ℕ
 
-abbrev row_ok : Row → ReadRow
+abbrev pub row_ok : Row → ReadRow
 row_ok row = Ok row
 
-tried_stamp : (test : Bool) (left : ℕ) (a row : Row) → cond test (row_ok a) (Err left) ≡ row_ok row → (test ≡ true) × (a ≡ row)
+pub tried_stamp : (test : Bool) (left : ℕ) (a row : Row) → cond test (row_ok a) (Err left) ≡ row_ok row → (test ≡ true) × (a ≡ row)
 tried_stamp true left a row e = (refl, same_ok a row e)
 tried_stamp false left a row e = absurd cc
 
