@@ -5,3 +5,4 @@ mod Ranks
 mod SeekLaws
 mod MergeSteps
 mod Runs
+mod Steady

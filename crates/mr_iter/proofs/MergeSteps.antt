@@ -1,6 +1,6 @@
 -- What a seek and a step do to many cursors as one.
 use Rattle.std.proofs.Common.{◌≡◌, ℕ, ◌+◌, ◌-◌, ◌<◌, Bool, true, false, List, [], ◌∷◌, length, map, get_or, set, suc, zero, Option, Some, None, is_some, nat_eq, not, refl, sym, ◌∙◌, ap, subst, inl, inr, arith}
-use Rattle.std.specs.List.{AllByRecursion, list_any}
+use Rattle.std.specs.List.{AllByRecursion, list_all, list_any}
 use Rattle.std.specs.Ordering.{is_lt}
 use Rattle.std.proofs.lemmas.Cmp.{tied_itself, nat_cmp_total}
 use Rattle.std.proofs.lemmas.Bool.{cases_eq, cases_Bool}
@@ -8,7 +8,7 @@ use Rattle.std.proofs.lemmas.Bool.Decides.{nat_tests}
 use Rattle.mr_base.specs.Disk.{State, Image}
 use Rattle.mr_base.specs.Calls.{Counts}
 use Rattle.mr_base.specs.declared.stop.Direction.{Direction}
-use Rattle.mr_iter.specs.Versions.{Version, version_cmp, key_cmp, joined, merged, from_key, IsInOrder, others}
+use Rattle.mr_iter.specs.Versions.{Version, version_cmp, key_cmp, joined, merged, from_key, first_at, IsInOrder, others}
 use Rattle.mr_iter.specs.Order.{version_total, filter-merged}
 use Rattle.mr_iter.specs.Cursors.{CursorState, SameList, CountsStep, left, with_current}
 use Rattle.mr_iter.specs.Children.{Zipped, total, KeepsChild, FoundChild}
@@ -63,11 +63,32 @@ module _ {K : Type 0} (f : K → CursorState) (whole : K → Image → Type 0) (
   kept_lists (x ∷ xs) [] all i = absurd all
   kept_lists (x ∷ xs) (y ∷ ys) all i = let e = all.0.list.versions i in let es = kept_lists xs ys all.1 i in cc
 
+  kept_distinct : (xs ys : List K) → Zipped (KeepsChild f whole image tells) xs ys → (i : Image) → list_all (λ (c : CursorState). c.distinct i) (map f ys) ≡ list_all (λ (c : CursorState). c.distinct i) (map f xs)
+  kept_distinct [] [] all i = refl
+  kept_distinct [] (y ∷ ys) all i = absurd all
+  kept_distinct (x ∷ xs) [] all i = absurd all
+  kept_distinct (x ∷ xs) (y ∷ ys) all i = let e = all.0.list.distinct i in let es = kept_distinct xs ys all.1 i in cc
+
+  kept_sums : (g : CursorState → Image → List ℕ → Option Version → ℕ) → ((x y : CursorState) → SameList x y → (i : Image) (key : List ℕ) (place : Option Version) → g y i key place ≡ g x i key place) →
+      (xs ys : List K) → Zipped (KeepsChild f whole image tells) xs ys → (i : Image) (key : List ℕ) (place : Option Version) →
+      total (λ (c : CursorState). g c i key (first_at d place (c.versions i))) (map f ys) ≡ total (λ (c : CursorState). g c i key (first_at d place (c.versions i))) (map f xs)
+  kept_sums g keeps [] [] all i key place = refl
+  kept_sums g keeps [] (y ∷ ys) all i key place = absurd all
+  kept_sums g keeps (x ∷ xs) [] all i key place = absurd all
+  kept_sums g keeps (x ∷ xs) (y ∷ ys) all i key place =
+      let here : g (f y) i key (first_at d place ((f y).versions i)) ≡ g (f x) i key (first_at d place ((f x).versions i)) =
+      ap (λ (vs : List Version). g (f y) i key (first_at d place vs)) (all.0.list.versions i) ∙ keeps (f x) (f y) all.0.list i key (first_at d place ((f x).versions i)) in
+      let later = kept_sums g keeps xs ys all.1 i key place in
+      omega (arith, here, later)
+
   pub kept_list : (xs ys : List K) (order order' : List ℕ) → Zipped (KeepsChild f whole image tells) xs ys → SameList (merge_state d order (map f xs)) (merge_state d order' (map f ys))
   kept_list xs ys order order' all = record {
     direction = refl;
     files = kept_files xs ys all;
     versions = λ i. ap (merged (version_cmp d)) (kept_lists xs ys all i);
+    distinct = λ i. let e = kept_distinct xs ys all i in let es = kept_lists xs ys all i in cc;
+    reads_to = λ i key place. kept_sums (λ c. c.reads_to) (λ x y kept. kept.reads_to) xs ys all i key place;
+    asked_to = λ i key place. kept_sums (λ c. c.asked_to) (λ x y kept. kept.asked_to) xs ys all i key place;
   }
 
   pub kept_whole : (xs ys : List K) → Zipped (KeepsChild f whole image tells) xs ys → tells → AllByRecursion (λ c. whole c image) xs → AllByRecursion (λ c. whole c image) ys
@@ -82,23 +103,31 @@ module _ {K : Type 0} (f : K → CursorState) (whole : K → Image → Type 0) (
   kept_direction (x ∷ xs) [] all one = absurd all
   kept_direction (x ∷ xs) (y ∷ ys) all one = (all.0.list.direction ∙ one.0, kept_direction xs ys all.1 one.1)
 
-  pub found_lefts : (key : List ℕ) (xs ys : List K) → Zipped (FoundChild f whole image tells key) xs ys → IsOneDirection d (map f xs) → tells → AllByRecursion (λ c. whole c image) xs →
+  pub found_lefts : (steady : K → Image → Type 0) (key : List ℕ) (xs ys : List K) → Zipped (FoundChild f whole steady image tells key) xs ys → IsOneDirection d (map f xs) → tells → AllByRecursion (λ c. whole c image) xs →
       lefts (map f ys) image ≡ map (from_key d key) (lists (map f xs) image)
-  found_lefts key [] [] all one told is = refl
-  found_lefts key [] (y ∷ ys) all one told is = absurd all
-  found_lefts key (x ∷ xs) [] all one told is = absurd all
-  found_lefts key (x ∷ xs) (y ∷ ys) all one told is =
+  found_lefts steady key [] [] all one told is = refl
+  found_lefts steady key [] (y ∷ ys) all one told is = absurd all
+  found_lefts steady key (x ∷ xs) [] all one told is = absurd all
+  found_lefts steady key (x ∷ xs) (y ∷ ys) all one told is =
       let e : left (f y) image ≡ from_key d key ((f x).versions image) = all.0.found told is.0 ∙ ap (λ (e : Direction). from_key e key ((f x).versions image)) one.0 in
-      let es = found_lefts key xs ys all.1 one.1 told is.1 in cc
+      let es = found_lefts steady key xs ys all.1 one.1 told is.1 in cc
+
+  -- what is left of all after a seek
+  pub seek_left : ((c : K) (image : Image) → whole c image → IsInOrder (version_cmp (f c).direction) (left (f c) image) × IsInOrder (version_cmp (f c).direction) ((f c).versions image)) →
+      (xs ys : List K) (order : List ℕ) → Zipped (KeepsChild f whole image tells) xs ys → IsOneDirection d (map f xs) → IsQueue d (map f ys) order → HasAll (length ys) (map f ys) order → tells → AllByRecursion (λ c. whole c image) xs →
+      left (merge_state d order (map f ys)) image ≡ merged (version_cmp d) (lefts (map f ys) image)
+  seek_left law xs ys order kept one queue all told is =
+      left-all d (map f ys) image order queue (subst (λ (n : ℕ). HasAll n (map f ys) order) (sym (length-map f ys)) all)
+      (each_ordered f whole law d ys image (kept_direction xs ys kept one) (kept_whole xs ys kept told is))
 
   -- the merge stands where the key is found in its list
   pub found_merge : ((c : K) (image : Image) → whole c image → IsInOrder (version_cmp (f c).direction) (left (f c) image) × IsInOrder (version_cmp (f c).direction) ((f c).versions image)) →
-      (key : List ℕ) (xs ys : List K) (order : List ℕ) → Zipped (KeepsChild f whole image tells) xs ys → Zipped (FoundChild f whole image tells key) xs ys → IsOneDirection d (map f xs) → IsQueue d (map f ys) order → HasAll (length ys) (map f ys) order → tells → AllByRecursion (λ c. whole c image) xs →
+      (steady : K → Image → Type 0) (key : List ℕ) (xs ys : List K) (order : List ℕ) → Zipped (KeepsChild f whole image tells) xs ys → Zipped (FoundChild f whole steady image tells key) xs ys → IsOneDirection d (map f xs) → IsQueue d (map f ys) order → HasAll (length ys) (map f ys) order → tells → AllByRecursion (λ c. whole c image) xs →
       left (merge_state d order (map f ys)) image ≡ from_key d key (merged (version_cmp d) (lists (map f xs) image))
-  found_merge law key xs ys order kept found one queue all told is =
+  found_merge law steady key xs ys order kept found one queue all told is =
       left-all d (map f ys) image order queue (subst (λ (n : ℕ). HasAll n (map f ys) order) (sym (length-map f ys)) all)
       (each_ordered f whole law d ys image (kept_direction xs ys kept one) (kept_whole xs ys kept told is))
-      ∙ ap (merged (version_cmp d)) (found_lefts key xs ys found one told is)
+      ∙ ap (merged (version_cmp d)) (found_lefts steady key xs ys found one told is)
       ∙ sym (filter-merged (version_cmp d) (version_total d) (λ v. not (is_lt (key_cmp d v.key key))) (lists (map f xs) image))
 
 -- Child j of a queue moves on: cs are the states before, and s is the one of that child afterwards.
@@ -191,6 +220,19 @@ module _ {K : Type 0} (f : K → CursorState) (d : Direction) (xs : List K) (ord
 
   pub next_steps : (f y).steps < (f x).steps → total (λ (c : CursorState). c.steps) (map f (set xs j y)) < total (λ (c : CursorState). c.steps) (map f xs)
   next_steps less = let t = next_total (λ (c : CursorState). c.steps) in omega (arith, t, less)
+
+  pub next_left : (whole : K → Image → Type 0) (image : Image) (tells : Type 0) →
+      ((c : K) (image : Image) → whole c image → IsInOrder (version_cmp (f c).direction) (left (f c) image) × IsInOrder (version_cmp (f c).direction) ((f c).versions image)) →
+      (new : List ℕ) → IsOneDirection d (map f xs) → IsMergeQueue d (map f xs) order → IsPut (map f (set xs j y)) j js new → IsQueue d (map f (set xs j y)) new → Zipped (KeepsChild f whole image tells) xs (set xs j y) →
+      tells → AllByRecursion (λ c. whole c image) xs → left (merge_state d new (map f (set xs j y))) image ≡ merged (version_cmp d) (lefts (map f (set xs j y)) image)
+  next_left whole image tells law new one queue put now kept told all =
+      left-all d (map f (set xs j y)) image new now (next_all new queue put) (each_ordered f whole law d (set xs j y) image (kept_direction f whole image tells d xs (set xs j y) kept one) (kept_whole f whole image tells d xs (set xs j y) kept told all))
+
+  -- the version of the first child is that of all
+  pub first_version : is_some (first_of (map f xs) order) ≡ true → (v : Version) × (first_of (map f xs) order ≡ Some v) × ((f x).current ≡ Some v)
+  first_version some =
+      let v = some_of (first_of (map f xs) order) some in
+      (v.0, v.1, sym (ap (first_of (map f xs)) is ∙ current_of f xs j x lt at) ∙ v.1)
 
   pub next_moved : (whole : K → Image → Type 0) (image : Image) (tells : Type 0) →
       ((c : K) (image : Image) → whole c image → IsInOrder (version_cmp (f c).direction) (left (f c) image) × IsInOrder (version_cmp (f c).direction) ((f c).versions image)) →

@@ -14,6 +14,9 @@ list_then a b c first second = record {
   direction = second.direction ∙ first.direction;
   files = second.files ∙ first.files;
   versions = λ image. second.versions image ∙ first.versions image;
+  distinct = λ image. second.distinct image ∙ first.distinct image;
+  reads_to = λ image key place. second.reads_to image key place ∙ first.reads_to image key place;
+  asked_to = λ image key place. second.asked_to image key place ∙ first.asked_to image key place;
 }
 
 pub counts_step_then : (a b c : CursorState) (s t u : State) → CountsStep a b s t → CountsStep b c t u → CountsStep a c s u
@@ -46,3 +49,7 @@ module _ {K : Type 0} (whole : K → Image → Type 0) (start mid new : State) (
   -- what holds of the files now holds of them as they were
   pub run_image : (P : Image → Type 0) → (Tells mid → whole y (seen mid) → P (seen mid)) → Tells start → whole x (seen start) → P (seen start)
   run_image P now told is = subst P (image_same start mid (same told)) (now (told_on told) (whole_now told is))
+
+  -- and it stays steady
+  pub run_steady : (steady : K → Image → Type 0) → (Tells mid → whole y (seen mid) → steady y (seen mid) → steady z (seen mid)) → Tells start → whole x (seen start) → steady y (seen start) → steady z (seen start)
+  run_steady steady next told is stands = subst (steady z) (image_same start mid (same told)) (next (told_on told) (whole_now told is) (subst (steady y) (sym (image_same start mid (same told))) stands))

@@ -14,7 +14,7 @@ pub image_same : (old new : State) → Same old new → seen new ≡ seen old
 image_same old new same = ap {B = Image} (λ (m : Moment) (file : ℕ). (m.files file).bytes) (same_present old new same)
 
 pub same_list : (s : CursorState) → SameList s s
-same_list s = record { direction = refl; files = refl; versions = λ image. refl }
+same_list s = record { direction = refl; files = refl; versions = λ image. refl; distinct = λ image. refl; reads_to = λ image key place. refl; asked_to = λ image key place. refl }
 
 module _ {K : Type 0} (f : K → CursorState) (whole : K → Image → Type 0) (start mid new : State) (tells : mid.tells ≡ start.tells) (same : Tells start → Same start mid) where
   tells_on : Tells start → Tells mid
@@ -26,10 +26,12 @@ module _ {K : Type 0} (f : K → CursorState) (whole : K → Image → Type 0) (
     stays_whole = λ told is. subst (whole y) (image_same start mid (same told)) (stays (tells_on told) (subst (whole x) (sym (image_same start mid (same told))) is));
   }
 
-  pub child_found : (key : List ℕ) (x y : K) → (Tells mid → whole x (seen mid) → left (f y) (seen mid) ≡ from_key (f x).direction key ((f x).versions (seen mid))) → FoundChild f whole (seen start) (Tells start) key x y
-  child_found key x y found = record {
+  pub child_found : (steady : K → Image → Type 0) (key : List ℕ) (x y : K) → IsTrue ((f y).sought key) → (Tells mid → whole x (seen mid) → steady y (seen mid)) → (Tells mid → whole x (seen mid) → left (f y) (seen mid) ≡ from_key (f x).direction key ((f x).versions (seen mid))) → FoundChild f whole steady (seen start) (Tells start) key x y
+  child_found steady key x y sought stands found = record {
     found = λ told is. subst (λ (image : Image). left (f y) image ≡ from_key (f x).direction key ((f x).versions image)) (image_same start mid (same told))
         (found (tells_on told) (subst (whole x) (sym (image_same start mid (same told))) is));
+    sought = sought;
+    stands = λ told is. subst (steady y) (image_same start mid (same told)) (stands (tells_on told) (subst (whole x) (sym (image_same start mid (same told))) is));
   }
 
   pub same_on : (Tells mid → Same mid new) → Tells start → Same start new
@@ -41,16 +43,16 @@ module _ {K : Type 0} (f : K → CursorState) (whole : K → Image → Type 0) (
   stop_of x all so later (Full what at limit) may = may
   stop_of x all so later (Damaged file at) may = λ told is. may (tells_on told) (subst (whole x) (sym (image_same start mid (same told))) (so is))
 
-abbrev pub SoughtOne : {K : Type 0} → (K → CursorState) → (K → Image → Type 0) → List ℕ → State → K → K → Type 0
-SoughtOne f whole key start v w = KeepsChild f whole (seen start) (Tells start) v w × FoundChild f whole (seen start) (Tells start) key v w
+abbrev pub SoughtOne : {K : Type 0} → (K → CursorState) → (K → Image → Type 0) → (K → Image → Type 0) → List ℕ → State → K → K → Type 0
+SoughtOne f whole steady key start v w = KeepsChild f whole (seen start) (Tells start) v w × FoundChild f whole steady (seen start) (Tells start) key v w
 
 pub kept_still : {K : Type 0} (f : K → CursorState) (whole : K → Image → Type 0) (start : State) (z : K) → KeepsChild f whole (seen start) (Tells start) z z
 kept_still f whole start z = record { list = same_list (f z); stays_whole = λ told is. is }
 
 -- A run of seeks over xs, of which n are done and gave ys; x is the next one, and y what its seek gave.
-module _ {K : Type 0} (f : K → CursorState) (whole : K → Image → Type 0) (key : List ℕ) (start mid new : State) (xs ys : List K) (n : ℕ) (x y : K) where
+module _ {K : Type 0} (f : K → CursorState) (whole steady : K → Image → Type 0) (key : List ℕ) (start mid new : State) (xs ys : List K) (n : ℕ) (x y : K) where
   abbrev pub Sought : ℕ → List K → Type 0
-  Sought m zs = DoneTo (SoughtOne f whole key start) m xs zs
+  Sought m zs = DoneTo (SoughtOne f whole steady key start) m xs zs
 
   abbrev pub SoughtCounts : ℕ → List K → State → Type 0
   SoughtCounts m zs now = Counts (total (λ c. (f c).reads) (take m zs)) (total (λ c. (f c).asked) (take m zs)) 0 start now
@@ -62,5 +64,5 @@ module _ {K : Type 0} (f : K → CursorState) (whole : K → Image → Type 0) (
   all_counts lt so_far counts = counts-within _ _ _ _ start new (sum-take (λ c. (f c).reads) (n + 1) (set ys n y)) (sum-take (λ c. (f c).asked) (n + 1) (set ys n y)) (seek_counts lt so_far counts)
 
   pub err_keeps : n < length xs → Sought n ys → x ≡ get_or ys n x → KeepsChild f whole (seen start) (Tells start) x y → Zipped (KeepsChild f whole (seen start) (Tells start)) xs (set ys n y)
-  err_keeps lt done is here = done-set (SoughtOne f whole key start) (KeepsChild f whole (seen start) (Tells start)) n xs ys x y lt
+  err_keeps lt done is here = done-set (SoughtOne f whole steady key start) (KeepsChild f whole (seen start) (Tells start)) n xs ys x y lt
       (kept_still f whole start) (λ v w both. both.0) done is here

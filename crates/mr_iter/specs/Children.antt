@@ -1,5 +1,5 @@
 -- What a call does to each of many cursors.
-use Rattle.std.specs.Prelude.{◌≡◌, ℕ, ◌+◌, List, [], ◌∷◌}
+use Rattle.std.specs.Prelude.{◌≡◌, IsTrue, ℕ, ◌+◌, List, [], ◌∷◌}
 use Rattle.mr_iter.specs.Versions.{from_key}
 use Rattle.mr_iter.specs.Cursors.{CursorState, SameList, left}
 use Rattle.mr_base.specs.Disk.{Image}
@@ -22,5 +22,7 @@ pub record KeepsChild {K : Type 0} (f : K → CursorState) (whole : K → Image 
   pub stays_whole : tells → whole x image → whole y image
 
 -- a seek found the versions from the key on
-pub record FoundChild {K : Type 0} (f : K → CursorState) (whole : K → Image → Type 0) (image : Image) (tells : Type 0) (key : List ℕ) (x y : K) : Type 0 where
+pub record FoundChild {K : Type 0} (f : K → CursorState) (whole steady : K → Image → Type 0) (image : Image) (tells : Type 0) (key : List ℕ) (x y : K) : Type 0 where
   pub found : tells → whole x image → left (f y) image ≡ from_key (f x).direction key ((f x).versions image)
+  pub sought : IsTrue ((f y).sought key)
+  pub stands : tells → whole x image → steady y image

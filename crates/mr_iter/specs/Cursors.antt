@@ -1,5 +1,5 @@
 -- What a cursor means.
-use Rattle.std.specs.Prelude.{◌≡◌, ℕ, ◌-◌, ◌≤◌, List, [], ◌∷◌, Option, Some, None}
+use Rattle.std.specs.Prelude.{◌≡◌, ℕ, ◌-◌, ◌≤◌, Bool, drop, List, [], ◌∷◌, Option, Some, None}
 use Rattle.std.specs.List.{AllByRecursion}
 use Rattle.mr_base.specs.Disk.{State, Tells, Image, HasRisen}
 use Rattle.mr_base.specs.Calls.{Counts}
@@ -9,7 +9,9 @@ use Rattle.mr_iter.specs.Versions.{Version}
 use Rattle.mr_base.specs.declared.stop.Direction.{Direction}
 
 -- A cursor: its direction, the files that it reads, its list of versions by what these files have, the version that it stands
--- on, those behind it, how many steps are left at most, and the reads and bytes asked for since the last seek.
+-- on, those behind it, how many steps are left at most, and the reads and bytes asked for since the last seek. Then, for bounds on these:
+-- whether no version stands twice among those that it goes over; whether its last seek was for this key, or for one that costs
+-- the same; and what it may have read, and asked for, from a seek for a key up to a version, or up to the end.
 pub record CursorState : Type 0 where
   pub direction : Direction
   pub files : List ℕ
@@ -19,6 +21,10 @@ pub record CursorState : Type 0 where
   pub steps : ℕ
   pub reads : ℕ
   pub asked : ℕ
+  pub distinct : Image → Bool
+  pub sought : List ℕ → Bool
+  pub reads_to : Image → List ℕ → Option Version → ℕ
+  pub asked_to : Image → List ℕ → Option Version → ℕ
 
 -- what is left of the list, the version that it stands on first
 abbrev pub with_current : Option Version → List Version → List Version
@@ -33,6 +39,9 @@ pub record SameList (old new : CursorState) : Type 0 where
   pub direction : new.direction ≡ old.direction
   pub files : new.files ≡ old.files
   pub versions : (image : Image) → new.versions image ≡ old.versions image
+  pub distinct : (image : Image) → new.distinct image ≡ old.distinct image
+  pub reads_to : (image : Image) (key : List ℕ) (place : Option Version) → new.reads_to image key place ≡ old.reads_to image key place
+  pub asked_to : (image : Image) (key : List ℕ) (place : Option Version) → new.asked_to image key place ≡ old.asked_to image key place
 
 -- two images have the same in these files
 abbrev pub SameFiles : List ℕ → Image → Image → Type 0
@@ -50,3 +59,18 @@ MayStop whole old new Memory = Unit {0}
 MayStop whole old new Disk = HasRisen old.faults new.faults
 MayStop whole old new (Full what at limit) = ⊥
 MayStop whole old new (Damaged file at) = Tells old → whole → ⊥
+
+-- what is left is an end of its list
+pub record IsInPlace (s : CursorState) (image : Image) : Type 0 where
+  pub passed : ℕ
+  pub rest : left s image ≡ drop passed (s.versions image)
+
+-- what it read since its last seek, where that was for this key, is at most what it may have read up to where it stands
+pub record IsWithinBound (s : CursorState) (image : Image) (key : List ℕ) : Type 0 where
+  pub reads : s.reads ≤ s.reads_to image key s.current
+  pub asked : s.asked ≤ s.asked_to image key s.current
+
+-- what it may have read up to a version is at most what it may have read up to the end
+pub record GrowsToEnd (s : CursorState) (image : Image) (key : List ℕ) (place : Option Version) : Type 0 where
+  pub reads : s.reads_to image key place ≤ s.reads_to image key None
+  pub asked : s.asked_to image key place ≤ s.asked_to image key None

@@ -7,3 +7,5 @@ pub mod Children
 pub mod Snapshots
 pub mod SnapshotLaws
 pub mod RunOuts
+pub mod Places
+pub mod MergePlaces

@@ -1,9 +1,9 @@
 -- Many cursors as one.
-use Rattle.std.specs.Prelude.{◌≡◌, ℕ, ◌<◌, Bool, true, false, List, [], ◌∷◌, length, map, Option, Some, None, is_some, nat_eq, zero, suc}
-use Rattle.std.specs.List.{AllByRecursion, list_any, insert}
+use Rattle.std.specs.Prelude.{◌≡◌, ◌&&◌, ℕ, ◌<◌, Bool, true, false, List, [], ◌∷◌, length, map, Option, Some, None, is_some, nat_eq, zero, suc}
+use Rattle.std.specs.List.{AllByRecursion, list_all, list_any, insert}
 use Rattle.std.specs.Ordering.{nat_cmp, is_lt, ordering_then}
 use Rattle.mr_base.specs.declared.stop.Direction.{Direction}
-use Rattle.mr_iter.specs.Versions.{Version, version_cmp, joined, merged, others}
+use Rattle.mr_iter.specs.Versions.{Version, version_cmp, joined, merged, others, is_strict, first_at}
 use Rattle.mr_iter.specs.Cursors.{CursorState, left}
 use Rattle.mr_base.specs.Disk.{Image}
 use Rattle.mr_iter.specs.Children.{total}
@@ -67,7 +67,16 @@ merge_state direction order cs = record {
   steps = total (λ (c : CursorState). c.steps) cs;
   reads = total (λ (c : CursorState). c.reads) cs;
   asked = total (λ (c : CursorState). c.asked) cs;
+  distinct = λ image. list_all (λ (c : CursorState). c.distinct image) cs && is_strict direction (merged (version_cmp direction) (lists cs image));
+  sought = λ key. list_all (λ (c : CursorState). c.sought key) cs;
+  reads_to = λ image key place. total (λ (c : CursorState). c.reads_to image key (first_at direction place (c.versions image))) cs;
+  asked_to = λ image key place. total (λ (c : CursorState). c.asked_to image key (first_at direction place (c.versions image))) cs;
 }
+
+-- it stands on the first version at or behind a version
+abbrev pub IsAt : Direction → Option Version → Image → CursorState → Type 0
+IsAt direction None image s = Unit {0}
+IsAt direction (Some v) image s = first_at direction (Some v) (s.versions image) ≡ s.current
 
 abbrev pub IsOneDirection : Direction → List CursorState → Type 0
 IsOneDirection direction cs = AllByRecursion (λ (c : CursorState). c.direction ≡ direction) cs

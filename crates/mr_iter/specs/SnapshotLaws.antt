@@ -1,6 +1,6 @@
 -- Laws of the versions at a sequence number.
-use Rattle.std.specs.Prelude.{◌≡◌, ◌<◌, ℕ, Bool, true, false, cond, not, List, [], ◌∷◌, ◌++◌, Option, Some, None, is_some, IfSome, refl}
-use Rattle.std.proofs.Common.{sym, ◌∙◌, ap}
+use Rattle.std.specs.Prelude.{◌≡◌, ◌<◌, ◌+◌, drop, ℕ, Bool, true, false, cond, not, List, [], ◌∷◌, ◌++◌, Option, Some, None, is_some, IfSome, refl}
+use Rattle.std.proofs.Common.{sym, ◌∙◌, ap, arith}
 use Rattle.std.specs.List.{AllByRecursion}
 use Rattle.std.specs.declared.cmp.Ordering.{Ordering}
 use Rattle.std.specs.declared.cmp.Ordering.TheVariants.{Less, Equal, Greater}
@@ -11,7 +11,8 @@ use Rattle.mr_base.specs.declared.stop.Direction.{Direction}
 use Rattle.mr_base.specs.declared.stop.Direction.TheVariants.{Forward, Reverse}
 use Rattle.mr_iter.specs.Versions.{Version, key_cmp, version_cmp, IsInOrder, IsAtFront, from_key}
 use Rattle.mr_iter.specs.Order.{key_total, by_key, not_before}
-use Rattle.mr_iter.specs.Cursors.{CursorState, left, with_current}
+use Rattle.mr_iter.specs.Cursors.{CursorState, IsInPlace, IsWithinBound, GrowsToEnd, left, with_current}
+use Rattle.mr_iter.specs.Places.{from_key-drop, drop_tail}
 use Rattle.mr_base.specs.Disk.{Image}
 use Rattle.mr_iter.specs.Snapshots.{shown, key_of, is_skipped, snapshot_state, each-shown, IsInOrder-shown, IsUpward, NoneSkipped, filter-shown}
 
@@ -89,3 +90,24 @@ skip_kept true o items cleared k is e empty same = ap Some (e ∙ ap (λ (zs : L
 pub snapshot_going : (number : ℕ) (placed : Bool) (s : CursorState) → (is_some s.current ≡ true → 0 < s.steps) → is_some (snapshot_state number placed s).current ≡ true → 0 < (snapshot_state number placed s).steps
 snapshot_going number false s law is = cc
 snapshot_going number true s law is = law is
+
+-- what it read is what its inner cursor read
+pub snapshot_costs : (number : ℕ) (placed : Bool) (s : CursorState) (image : Image) (k : List ℕ) → IsWithinBound s image k → GrowsToEnd s image k s.current → IsWithinBound (snapshot_state number placed s) image k
+snapshot_costs number true s image k bound grows = record { reads = bound.reads; asked = bound.asked }
+snapshot_costs number false s image k bound grows = record { reads = omega (arith, bound.reads, grows.reads); asked = omega (arith, bound.asked, grows.asked) }
+
+pub snapshot_to_end : (number : ℕ) (placed : Bool) (s : CursorState) (image : Image) (k : List ℕ) (place : Option Version) → GrowsToEnd s image k place → GrowsToEnd (snapshot_state number placed s) image k place
+snapshot_to_end number placed s image k place grows = record { reads = grows.reads; asked = grows.asked }
+
+-- it stands in its list after a seek, and after a step
+pub found_place : (d : Direction) (key : List ℕ) (s : CursorState) (image : Image) (vs : List Version) → IsInOrder (version_cmp d) vs → s.versions image ≡ vs → left s image ≡ from_key d key vs → IsInPlace s image
+found_place d key s image vs ordered same is = let n = from_key-drop d key vs ordered in record { passed = n.0; rest = is ∙ n.1 ∙ ap (drop n.0) (sym same) }
+
+pub moved_place : (s t : CursorState) (image : Image) → t.versions image ≡ s.versions image → is_some s.current ≡ true → IsInPlace s image → left t image ≡ s.rest image → IsInPlace t image
+moved_place s t image same live old is = go s.current refl live
+  where
+    go : (o : Option Version) → s.current ≡ o → is_some o ≡ true → IsInPlace t image
+    go None e some = cc
+    go (Some v) e some =
+        let begins : drop old.passed (s.versions image) ≡ v ∷ s.rest image = sym old.rest ∙ ap (λ (p : Option Version). with_current p (s.rest image)) e in
+        record { passed = old.passed + 1; rest = is ∙ sym (drop_tail old.passed (s.versions image) v (s.rest image) begins) ∙ ap (drop (old.passed + 1)) (sym same) }

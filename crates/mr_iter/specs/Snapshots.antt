@@ -43,6 +43,10 @@ snapshot_state number placed s = record {
   steps = s.steps;
   reads = s.reads;
   asked = s.asked;
+  distinct = s.distinct;
+  sought = s.sought;
+  reads_to = s.reads_to;
+  asked_to = s.asked_to;
 }
 
 pub each-shown : (P : Version → Type 0) (number : ℕ) (skip : Option (List ℕ)) (vs : List Version) → AllByRecursion P vs → AllByRecursion P (shown number skip vs)

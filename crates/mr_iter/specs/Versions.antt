@@ -1,6 +1,6 @@
 -- Versions of keys, their order, and lists in that order.
-use Rattle.std.specs.Prelude.{◌≡◌, ℕ, ◌+◌, ◌<◌, false, true, cond, not, List, [], ◌∷◌, ◌++◌, Option, Some, None, filter}
-use Rattle.std.specs.List.{AllByRecursion}
+use Rattle.std.specs.Prelude.{◌≡◌, ◌&&◌, Bool, ℕ, ◌+◌, ◌<◌, false, true, cond, not, List, [], ◌∷◌, ◌++◌, Option, Some, None, filter}
+use Rattle.std.specs.List.{AllByRecursion, list_all}
 use Rattle.std.specs.Cmp.Lexicographic.{slice_cmp}
 use Rattle.std.specs.declared.cmp.Ordering.{Ordering}
 use Rattle.std.specs.Ordering.{nat_cmp, is_lt, is_gt, on, then_cmp, flip_args}
@@ -70,3 +70,13 @@ first (x ∷ xs) = Some x
 abbrev pub others : {X : Type 0} → List X → List X
 others [] = []
 others (x ∷ xs) = xs
+
+-- each version comes before all those behind it
+abbrev pub is_strict : Direction → List Version → Bool
+is_strict direction [] = true
+is_strict direction (v ∷ vs) = list_all (λ w. is_lt (version_cmp direction v w)) vs && is_strict direction vs
+
+-- the first version at or behind a place, None for the end
+abbrev pub first_at : Direction → Option Version → List Version → Option Version
+first_at direction None vs = None
+first_at direction (Some v) vs = first (filter (λ w. not (is_lt (version_cmp direction w v))) vs)

@@ -15,7 +15,7 @@ pub fn seek_all<D: Disk, C: Cursor<D>>(
     key: &[u8],
 ) -> Result<(), Stop>
     ensures keeps { Zipped (KeepsChild C.cursor C.whole (seen (D.disk disk.old)) (Tells (D.disk disk.old))) children.old.items children.new.items }
-    ensures found { OnOk result (Zipped (FoundChild C.cursor C.whole (seen (D.disk disk.old)) (Tells (D.disk disk.old)) key.now) children.old.items children.new.items) }
+    ensures found { OnOk result (Zipped (FoundChild C.cursor C.whole C.steady (seen (D.disk disk.old)) (Tells (D.disk disk.old)) key.now) children.old.items children.new.items) }
     ensures counts { Counts (total (λ c. (C.cursor c).reads) children.new.items) (total (λ c. (C.cursor c).asked) children.new.items) 0 (D.disk disk.old) (D.disk disk.new) }
     ensures same { Tells (D.disk disk.old) → Same (D.disk disk.old) (D.disk disk.new) }
     ensures stops { IfErr result (MayStop (AllByRecursion (λ c. C.whole c (seen (D.disk disk.old))) children.old.items) (D.disk disk.old) (D.disk disk.new)) }

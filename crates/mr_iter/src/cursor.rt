@@ -1,9 +1,9 @@
 //! A finite ordered list of versions, and a place in it.
-ghost use Rattle.std.specs.Prelude.{◌≡◌, ◌<◌, ℕ, IsTrue, IsSome, IfSome, IfErr, OnOk, OnErr, is_some, is_none, unwrap_or, [], None};
+ghost use Rattle.std.specs.Prelude.{◌≡◌, ◌<◌, ℕ, List, Option, IsTrue, IsSome, IfSome, IfErr, OnOk, OnErr, is_some, is_none, unwrap_or, [], None};
 ghost use Rattle.mr_base.specs.Disk.{Tells, Image, seen};
 ghost use Rattle.mr_base.specs.Calls.{Same, Counts};
-ghost use Rattle.mr_iter.specs.Versions.{IsInOrder, version_cmp, from_key};
-ghost use Rattle.mr_iter.specs.Cursors.{CursorState, left, SameList, SameFiles, CountsStep, MayStop};
+ghost use Rattle.mr_iter.specs.Versions.{Version, IsInOrder, version_cmp, from_key};
+ghost use Rattle.mr_iter.specs.Cursors.{CursorState, left, SameList, SameFiles, CountsStep, MayStop, IsInPlace, IsWithinBound, GrowsToEnd};
 
 use mr_base::{Disk, Stop};
 
@@ -14,6 +14,9 @@ pub trait Listed {
 
     /// Whether it is a whole cursor of what the files in this image have; damage is told only where it isn't.
     ghost whole: { Self → Image → Type 0 };
+
+    /// Whether it stands in its list as a seek and the steps behind it left it.
+    ghost steady: { Self → Image → Type 0 };
 
     /// Whether it stands behind the last version.
     fn at_end(&self) -> bool
@@ -45,6 +48,15 @@ pub trait Listed {
     /// The list is what its files say.
     ghost by_files: { (c : Self) (i j : Image) → SameFiles (cursor c).files i j → whole c i → whole c j × ((cursor c).versions i ≡ (cursor c).versions j) × ((cursor c).rest i ≡ (cursor c).rest j) };
 
+    /// What is left of a steady one is an end of its list.
+    ghost in_place: { (c : Self) (image : Image) → whole c image → steady c image → IsInPlace (cursor c) image };
+
+    /// What a steady one read since a seek is within its bound, where no version stands twice.
+    ghost costs: { (c : Self) (image : Image) (k : List ℕ) → whole c image → steady c image → IsTrue ((cursor c).distinct image) → IsTrue ((cursor c).sought k) → IsWithinBound (cursor c) image k };
+
+    /// No bound is above that of the end.
+    ghost to_end: { (c : Self) (image : Image) (k : List ℕ) (place : Option Version) → whole c image → GrowsToEnd (cursor c) image k place };
+
     /// Steps are left where it stands on a version.
     ghost going: { (c : Self) → is_some (cursor c).current ≡ Rattle.std.specs.Prelude.true → 0 < (cursor c).steps };
 }
@@ -59,7 +71,9 @@ pub trait Cursor<D: Disk>: Listed {
         ensures stops { IfErr result (MayStop (Self.whole self.old (seen (D.disk disk.old))) (D.disk disk.old) (D.disk disk.new)) }
         ensures at_end { OnErr result ((Self.cursor self.new).current ≡ None) }
         ensures whole { Tells (D.disk disk.old) → Self.whole self.old (seen (D.disk disk.old)) → Self.whole self.new (seen (D.disk disk.old)) }
-        ensures found { Tells (D.disk disk.old) → Self.whole self.old (seen (D.disk disk.old)) → OnOk result (left (Self.cursor self.new) (seen (D.disk disk.old)) ≡ from_key (Self.cursor self.old).direction key.now ((Self.cursor self.old).versions (seen (D.disk disk.old)))) };
+        ensures found { Tells (D.disk disk.old) → Self.whole self.old (seen (D.disk disk.old)) → OnOk result (left (Self.cursor self.new) (seen (D.disk disk.old)) ≡ from_key (Self.cursor self.old).direction key.now ((Self.cursor self.old).versions (seen (D.disk disk.old)))) }
+        ensures sought { OnOk result (IsTrue ((Self.cursor self.new).sought key.now)) }
+        ensures steady { Tells (D.disk disk.old) → Self.whole self.old (seen (D.disk disk.old)) → OnOk result (Self.steady self.new (seen (D.disk disk.old))) };
 
     /// Goes one version on. Takes memory.
     fn next(&mut self, disk: &mut D) -> Result<(), Stop>
@@ -71,5 +85,7 @@ pub trait Cursor<D: Disk>: Listed {
         ensures at_end { OnErr result ((Self.cursor self.new).current ≡ None) }
         ensures steps { OnOk result ((Self.cursor self.new).steps < (Self.cursor self.old).steps) }
         ensures whole { Tells (D.disk disk.old) → Self.whole self.old (seen (D.disk disk.old)) → Self.whole self.new (seen (D.disk disk.old)) }
-        ensures moved { Tells (D.disk disk.old) → Self.whole self.old (seen (D.disk disk.old)) → OnOk result (left (Self.cursor self.new) (seen (D.disk disk.old)) ≡ (Self.cursor self.old).rest (seen (D.disk disk.old))) };
+        ensures moved { Tells (D.disk disk.old) → Self.whole self.old (seen (D.disk disk.old)) → OnOk result (left (Self.cursor self.new) (seen (D.disk disk.old)) ≡ (Self.cursor self.old).rest (seen (D.disk disk.old))) }
+        ensures sought { (k : List ℕ) → IsTrue ((Self.cursor self.old).sought k) → OnOk result (IsTrue ((Self.cursor self.new).sought k)) }
+        ensures steady { Tells (D.disk disk.old) → Self.whole self.old (seen (D.disk disk.old)) → Self.steady self.old (seen (D.disk disk.old)) → OnOk result (Self.steady self.new (seen (D.disk disk.old))) };
 }

@@ -4,6 +4,7 @@ ghost use Rattle.std.specs.List.{AllByRecursion};
 ghost use Rattle.mr_iter.specs.Cursors.{CursorState};
 ghost use Rattle.mr_base.specs.Disk.{Image};
 ghost use Rattle.mr_iter.specs.Merging.{merge_state, first_of, IsMergeQueue, IsOneDirection};
+ghost use Rattle.mr_iter.specs.MergePlaces.{IsMergeSteady, merge_costs, merge_to_end};
 ghost use Rattle.mr_iter.specs.MergeLaws.{IsMergeQueue-prop, IsOneDirection-prop, merge_in_order, merge_by_files, merge_going};
 
 use crate::children::seek_all;
@@ -28,6 +29,8 @@ impl<C: Listed> Listed for Merge<C> {
 
     ghost whole = { λ m image. AllByRecursion (λ c. C.whole c image) m.children.items };
 
+    ghost steady = { λ m image. IsMergeSteady C.cursor C.steady m.direction m.children.items m.order.items image };
+
     fn at_end(&self) -> bool {
         self.order.is_empty()
     }
@@ -51,6 +54,12 @@ impl<C: Listed> Listed for Merge<C> {
     ghost in_order = { λ m image whole. merge_in_order C.cursor C.whole C.in_order m.direction m.children.items m.order.items image m.one_direction m.queue whole };
 
     ghost by_files = { λ m i j same whole. merge_by_files C.cursor C.whole C.by_files m.direction m.children.items m.order.items i j same whole };
+
+    ghost in_place = { λ m image whole steady. steady.place };
+
+    ghost costs = { λ m image k whole steady one key. merge_costs C.cursor C.whole C.steady C.costs C.to_end m.direction image k m.children.items m.order.items whole steady one key };
+
+    ghost to_end = { λ m image k place whole. merge_to_end C.cursor C.whole C.steady C.costs C.to_end m.direction image k m.children.items m.order.items place whole };
 
     ghost going = { λ m is. merge_going C.cursor C.going m.direction m.children.items m.order.items is };
 }

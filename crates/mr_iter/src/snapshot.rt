@@ -1,11 +1,11 @@
 //! The versions that stand at a sequence number.
-ghost use Rattle.std.specs.Prelude.{◌≡◌, ◌<◌, ◌≤◌, ◌+◌, ℕ, [], Bool, true, false, cond, IsTrue, IsSome, IfSome, IfOk, IfErr, OnOk, OnErr, length, Option, None, Some, is_some, is_none};
+ghost use Rattle.std.specs.Prelude.{◌≡◌, ◌<◌, ◌≤◌, ◌+◌, ℕ, List, [], Bool, true, false, cond, IsTrue, IsSome, IfSome, IfOk, IfErr, OnOk, OnErr, length, Option, None, Some, is_some, is_none};
 ghost use Rattle.mr_base.specs.Disk.{Tells, Image, seen};
 ghost use Rattle.mr_base.specs.Calls.{Same, Counts};
 ghost use Rattle.mr_iter.specs.Versions.{IsInOrder, version_cmp};
-ghost use Rattle.mr_iter.specs.Cursors.{CursorState, left, SameList, CountsStep, MayStop, with_current};
+ghost use Rattle.mr_iter.specs.Cursors.{CursorState, left, SameList, CountsStep, MayStop, with_current, IsInPlace};
 ghost use Rattle.mr_iter.specs.Snapshots.{shown, key_of, snapshot_state, skip_of, is_hidden, Passes};
-ghost use Rattle.mr_iter.specs.SnapshotLaws.{snapshot_in_order, snapshot_by_files, snapshot_going};
+ghost use Rattle.mr_iter.specs.SnapshotLaws.{snapshot_in_order, snapshot_by_files, snapshot_going, snapshot_costs, snapshot_to_end};
 
 use crate::cursor::{Cursor, Listed};
 use mr_base::{Disk, Stop};
@@ -39,6 +39,8 @@ pub fn pass<D: Disk, C: Cursor<D>>(
     ensures same { Tells (D.disk disk.old) → Same (D.disk disk.old) (D.disk disk.new) }
     ensures stops { IfErr result (MayStop (C.whole inner.old (seen (D.disk disk.old))) (D.disk disk.old) (D.disk disk.new)) }
     ensures whole { Tells (D.disk disk.old) → C.whole inner.old (seen (D.disk disk.old)) → C.whole inner.new (seen (D.disk disk.old)) }
+    ensures sought { (k : List ℕ) → IsTrue ((C.cursor inner.old).sought k) → IfOk result (λ here. IsTrue ((C.cursor inner.new).sought k)) }
+    ensures steady { Tells (D.disk disk.old) → C.whole inner.old (seen (D.disk disk.old)) → C.steady inner.old (seen (D.disk disk.old)) → IfOk result (λ here. C.steady inner.new (seen (D.disk disk.old))) }
     ensures steps { IfOk result (λ here. here ≡ false → (C.cursor inner.new).steps < (C.cursor inner.old).steps) }
     ensures stands { IfOk result (λ here. here ≡ true → IsSome (C.cursor inner.new).current × ((C.cursor inner.new).steps ≡ (C.cursor inner.old).steps)) }
     ensures passes { Tells (D.disk disk.old) → C.whole inner.old (seen (D.disk disk.old)) → IfOk result (λ here. Passes number here (skip_of skip.old) (skip_of skip.new) (C.cursor inner.old) (C.cursor inner.new) (seen (D.disk disk.old))) }
@@ -77,6 +79,8 @@ pub fn settle<D: Disk, C: Cursor<D>>(
     ensures same { Tells (D.disk disk.old) → Same (D.disk disk.old) (D.disk disk.new) }
     ensures stops { IfErr result (MayStop (C.whole inner.old (seen (D.disk disk.old))) (D.disk disk.old) (D.disk disk.new)) }
     ensures whole { Tells (D.disk disk.old) → C.whole inner.old (seen (D.disk disk.old)) → C.whole inner.new (seen (D.disk disk.old)) }
+    ensures sought { (k : List ℕ) → IsTrue ((C.cursor inner.old).sought k) → OnOk result (IsTrue ((C.cursor inner.new).sought k)) }
+    ensures steady { Tells (D.disk disk.old) → C.whole inner.old (seen (D.disk disk.old)) → C.steady inner.old (seen (D.disk disk.old)) → OnOk result (C.steady inner.new (seen (D.disk disk.old))) }
     ensures steps { OnOk result ((C.cursor inner.new).steps ≤ (C.cursor inner.old).steps) }
     ensures settled { Tells (D.disk disk.old) → C.whole inner.old (seen (D.disk disk.old)) → OnOk result (shown number (skip_of skip.old) (left (C.cursor inner.old) (seen (D.disk disk.old))) ≡ with_current (C.cursor inner.new).current (shown number (key_of (C.cursor inner.new).current) ((C.cursor inner.new).rest (seen (D.disk disk.old))))) }
 {
@@ -107,6 +111,8 @@ impl<C: Listed> Listed for AtSnapshot<C> {
 
     ghost whole = { λ a image. C.whole a.inner image };
 
+    ghost steady = { λ a image. C.steady a.inner image × IsInPlace (snapshot_state a.number a.placed (C.cursor a.inner)) image };
+
     fn at_end(&self) -> bool {
         !self.placed || self.inner.at_end()
     }
@@ -130,6 +136,12 @@ impl<C: Listed> Listed for AtSnapshot<C> {
     ghost in_order = { λ a image whole. snapshot_in_order a.number a.placed (C.cursor a.inner) image (C.in_order a.inner image whole) };
 
     ghost by_files = { λ a i j same whole. snapshot_by_files a.number a.placed (C.cursor a.inner) i j (C.by_files a.inner i j same whole) };
+
+    ghost in_place = { λ a image whole steady. steady.1 };
+
+    ghost costs = { λ a image k whole steady one key. snapshot_costs a.number a.placed (C.cursor a.inner) image k (C.costs a.inner image k whole steady.0 one key) (C.to_end a.inner image k (C.cursor a.inner).current whole) };
+
+    ghost to_end = { λ a image k place whole. snapshot_to_end a.number a.placed (C.cursor a.inner) image k place (C.to_end a.inner image k place whole) };
 
     ghost going = { λ a is. snapshot_going a.number a.placed (C.cursor a.inner) (C.going a.inner) is };
 }

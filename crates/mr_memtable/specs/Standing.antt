@@ -1,9 +1,11 @@
 -- Laws of a place among versions in memory.
-use Rattle.std.specs.Prelude.{◌≡◌, ℕ, ◌+◌, ◌-◌, ◌<◌, true, List, [], ◌∷◌, length, drop, refl, is_some}
+use Rattle.std.specs.Prelude.{◌≡◌, ℕ, ◌+◌, ◌-◌, ◌<◌, true, List, [], ◌∷◌, length, drop, refl, is_some, Option}
 use Rattle.std.proofs.Common.{sym, ◌∙◌, ap, subst, arith, suc, zero, add-one}
 use Rattle.mr_base.specs.declared.stop.Direction.{Direction}
 use Rattle.mr_iter.specs.Versions.{Version, version_cmp, IsInOrder, first}
-use Rattle.mr_iter.specs.Cursors.{with_current}
+use Rattle.mr_iter.specs.Cursors.{with_current, IsInPlace, IsWithinBound, GrowsToEnd}
+use Rattle.mr_base.specs.Disk.{Image}
+use Rattle.mr_memtable.specs.Tables.{standing_at}
 
 pub left_list : (vs : List Version) (n : ℕ) → with_current (first (drop n vs)) (drop (n + 1) vs) ≡ drop n vs
 left_list vs n = ap (λ (m : ℕ). with_current (first (drop n vs)) (drop m vs)) (add-one n) ∙ go vs n
@@ -30,3 +32,13 @@ some_below (v ∷ vs) (suc n) is = omega (arith, some_below vs n is)
 
 pub standing_going : (vs : List Version) (n : ℕ) → is_some (first (drop n vs)) ≡ true → 0 < length vs - n
 standing_going vs n is = omega (arith, some_below vs n is)
+
+pub standing_in_place : (d : Direction) (vs : List Version) (n : ℕ) (image : Image) → IsInPlace (standing_at d vs n) image
+standing_in_place d vs n image = record { passed = n; rest = left_list vs n }
+
+-- nothing is read
+pub standing_costs : (d : Direction) (vs : List Version) (n : ℕ) (image : Image) (k : List ℕ) → IsWithinBound (standing_at d vs n) image k
+standing_costs d vs n image k = record { reads = omega arith; asked = omega arith }
+
+pub standing_to_end : (d : Direction) (vs : List Version) (n : ℕ) (image : Image) (k : List ℕ) (place : Option Version) → GrowsToEnd (standing_at d vs n) image k place
+standing_to_end d vs n image k place = record { reads = omega arith; asked = omega arith }

@@ -1,7 +1,7 @@
 -- What a memtable means, and how it is kept.
-use Rattle.std.specs.Prelude.{◌≡◌, ℕ, ◌+◌, ◌*◌, ◌-◌, ◌^◌, ◌<◌, ◌≤◌, List, [], length, get_or, take, drop}
+use Rattle.std.specs.Prelude.{◌≡◌, ℕ, ◌+◌, ◌*◌, ◌-◌, ◌^◌, ◌<◌, ◌≤◌, true, List, [], length, get_or, take, drop}
 use Rattle.mr_base.specs.declared.stop.Direction.{Direction}
-use Rattle.mr_iter.specs.Versions.{Version, version_cmp, IsInOrder, first}
+use Rattle.mr_iter.specs.Versions.{Version, version_cmp, IsInOrder, first, is_strict}
 use Rattle.mr_iter.specs.Cursors.{CursorState}
 use Rattle.mr_memtable.specs.declared.chunks.Chunk.{Chunk}
 use Rattle.mr_memtable.specs.Slots.{versions_at}
@@ -25,6 +25,10 @@ standing_at direction vs n = record {
   steps = length vs - n;
   reads = 0;
   asked = 0;
+  distinct = λ image. is_strict direction vs;
+  sought = λ key. true;
+  reads_to = λ image key place. 0;
+  asked_to = λ image key place. 0;
 }
 
 -- at the beginning

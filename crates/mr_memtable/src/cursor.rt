@@ -4,7 +4,7 @@ ghost use Rattle.mr_memtable.specs.Slots.{version_at, Fits};
 ghost use Rattle.mr_memtable.specs.Chunks.{sizes};
 ghost use Rattle.mr_memtable.specs.Tables.{IsStanding, flat, standing_at, versions_in};
 ghost use Rattle.mr_memtable.specs.Props.{IsStanding-prop};
-ghost use Rattle.mr_memtable.specs.Standing.{standing_in_order, standing_going};
+ghost use Rattle.mr_memtable.specs.Standing.{standing_in_order, standing_going, standing_in_place, standing_costs, standing_to_end};
 
 use crate::search::{Place, find};
 use crate::slot::Slot;
@@ -64,6 +64,8 @@ impl<'a> Listed for MemCursor<'a> {
 
     ghost whole = { λ c image. Unit {0} };
 
+    ghost steady = { λ c image. Unit {0} };
+
     fn at_end(&self) -> bool {
         self.chunk >= self.table.chunks.len()
     }
@@ -93,6 +95,12 @@ impl<'a> Listed for MemCursor<'a> {
     ghost in_order = { λ c image whole. standing_in_order c.table.now.direction (versions_in c.table.now.bytes.items c.table.now.chunks.items) (flat (sizes c.table.now.chunks.items) c.chunk c.at) c.table.now.kept.ordered };
 
     ghost by_files = { λ c i j same whole. (tt, refl, refl) };
+
+    ghost in_place = { λ c image whole steady. standing_in_place c.table.now.direction (versions_in c.table.now.bytes.items c.table.now.chunks.items) (flat (sizes c.table.now.chunks.items) c.chunk c.at) image };
+
+    ghost costs = { λ c image k whole steady one key. standing_costs c.table.now.direction (versions_in c.table.now.bytes.items c.table.now.chunks.items) (flat (sizes c.table.now.chunks.items) c.chunk c.at) image k };
+
+    ghost to_end = { λ c image k place whole. standing_to_end c.table.now.direction (versions_in c.table.now.bytes.items c.table.now.chunks.items) (flat (sizes c.table.now.chunks.items) c.chunk c.at) image k place };
 
     ghost going = { λ c is. standing_going (versions_in c.table.now.bytes.items c.table.now.chunks.items) (flat (sizes c.table.now.chunks.items) c.chunk c.at) is };
 }

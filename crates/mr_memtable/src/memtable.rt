@@ -68,6 +68,7 @@ impl Memtable {
     pub fn cursor<'a>(&'a self) -> MemCursor<'a>
         ensures state { ⟦<MemCursor<'a> as Listed>⟧.cursor result ≡ at_beginning self.now }
         ensures whole { (image : Image) → ⟦<MemCursor<'a> as Listed>⟧.whole result image }
+        ensures steady { (image : Image) → ⟦<MemCursor<'a> as Listed>⟧.steady result image }
     {
         MemCursor::new(&self.table)
     }

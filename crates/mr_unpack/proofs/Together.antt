@@ -1,9 +1,8 @@
 -- Pieces and unpack forms lie together.
-use Rattle.std.proofs.Common.{◌≡◌, ℕ, ◌<◌, ◌^◌, List, length, refl, sym, subst}
+use Rattle.std.proofs.Common.{ℕ, ◌<◌, ◌^◌, List, length, refl, sym, subst}
 use Rattle.mr_pieces.proofs.Kept.{come_back}
 use Rattle.mr_types.specs.declared.kind.Kind.{Kind}
 use Rattle.mr_types.specs.declared.kind.Kind.TheVariants.{VarChar}
-use Rattle.mr_types.specs.Fields.{lying, pieces_of, unpack_of, Lies}
 use Rattle.mr_unpack.specs.Promises.{IsTextOf, ComesBack}
 
 abbrev Short : List ℕ → Type 0

@@ -1,4 +1,4 @@
-use Rattle.std.proofs.Common.{◌≡◌, ◌≤◌}
+use Rattle.std.proofs.Common.{◌≡◌, ◌≤◌, List, ℕ, IsTrue}
 use Rattle.mr_base.specs.Disk.{Tells, seen}
 use Rattle.mr_base.specs.Calls.{Same}
 use Rattle.mr_iter.specs.Cursors.{left, SameList, CountsStep}
@@ -11,6 +11,8 @@ invariant-settling g l = record {
   counts : CountsStep (g.C.Listed.cursor l.initial.inner) (g.C.Listed.cursor l.inner) (g.D.Disk.disk l.initial.disk) (g.D.Disk.disk l.disk);
   same : Tells (g.D.Disk.disk l.initial.disk) → Same (g.D.Disk.disk l.initial.disk) (g.D.Disk.disk l.disk);
   stays : Tells (g.D.Disk.disk l.initial.disk) → g.C.Listed.whole l.initial.inner (seen (g.D.Disk.disk l.initial.disk)) → g.C.Listed.whole l.inner (seen (g.D.Disk.disk l.initial.disk));
+  sought : (k : List ℕ) → IsTrue ((g.C.Listed.cursor l.initial.inner).sought k) → IsTrue ((g.C.Listed.cursor l.inner).sought k);
+  stands : Tells (g.D.Disk.disk l.initial.disk) → g.C.Listed.whole l.initial.inner (seen (g.D.Disk.disk l.initial.disk)) → g.C.Listed.steady l.initial.inner (seen (g.D.Disk.disk l.initial.disk)) → g.C.Listed.steady l.inner (seen (g.D.Disk.disk l.initial.disk));
   steps : (g.C.Listed.cursor l.inner).steps ≤ (g.C.Listed.cursor l.initial.inner).steps;
   so_far : Tells (g.D.Disk.disk l.initial.disk) → g.C.Listed.whole l.initial.inner (seen (g.D.Disk.disk l.initial.disk)) →
       shown l.number (skip_of l.initial.skip) (left (g.C.Listed.cursor l.initial.inner) (seen (g.D.Disk.disk l.initial.disk))) ≡ shown l.number (skip_of l.skip) (left (g.C.Listed.cursor l.inner) (seen (g.D.Disk.disk l.initial.disk)));

@@ -6,7 +6,8 @@ use Rattle.mr_iter.specs.Children.{KeepsChild}
 use Rattle.mr_iter.proofs.Steps.{zipped-set, each-of}
 use Rattle.mr_iter.proofs.SeekLaws.{kept_still, stop_of}
 use Rattle.mr_iter.proofs.ChildLaws.{order_split, first_below, first_live}
-use Rattle.mr_iter.proofs.MergeSteps.{kept_list, kept_whole, kept_direction, empty_queue, next_queue, next_others, next_full, next_counts, next_steps, next_moved}
+use Rattle.mr_iter.proofs.MergeSteps.{kept_list, kept_lists, next_left, first_version, kept_whole, kept_direction, empty_queue, next_queue, next_others, next_full, next_counts, next_steps, next_moved}
+use Rattle.mr_iter.proofs.Steady.{next_sought, merge_moved_steady, sought_at, direction_at}
 use Rattle.mr_iter.proofs.merge.MergeCursor.next.Goals as goal
 
 pub index_mut-requires : goal.index_mut-requires
@@ -91,3 +92,19 @@ returns-in-Err-clause-stops g c =
     c.index_mut.result.now (AllByRecursion (λ x. g.C.Listed.whole x (seen (g.D.Disk.disk c.args.disk.now))) c.args.self.now.children.items)
     (each-of (λ x. g.C.Listed.whole x (seen (g.D.Disk.disk c.args.disk.now))) c.args.self.now.children.items c.remove-j.result c.index_mut.result.now (first_below g.C.Listed.cursor c.args.self.now.children.items c.args.self.now.order.items c.remove-j.result c.requires c.remove-j.ensures.value) c.index_mut.ensures.value)
     (omega arith) c.in-Err.stop c.in-Err.ensures.stops
+
+pub returns-in-Ok-put_if_live-clause-sought : goal.returns-in-Ok-put_if_live-clause-sought
+returns-in-Ok-put_if_live-clause-sought g c = λ k was.
+    next_sought g.C.Listed.cursor g.C.Listed.whole g.C.Listed.steady (seen (g.D.Disk.disk c.args.disk.now)) (Tells (g.D.Disk.disk c.args.disk.now)) c.args.self.now.direction k c.args.self.now.children.items c.remove-j.result c.next.new.self was (c.in-Ok.ensures.sought k (sought_at g.C.Listed.cursor k c.args.self.now.children.items c.remove-j.result c.index_mut.result.now c.index_mut.ensures.value (first_below g.C.Listed.cursor c.args.self.now.children.items c.args.self.now.order.items c.remove-j.result c.requires c.remove-j.ensures.value) was))
+
+pub returns-in-Ok-put_if_live-clause-steady : goal.returns-in-Ok-put_if_live-clause-steady
+returns-in-Ok-put_if_live-clause-steady g c = λ told is stands.
+    let v = first_version g.C.Listed.cursor c.args.self.now.direction c.args.self.now.children.items c.args.self.now.order.items c.remove-j.new.self.items c.remove-j.result c.index_mut.result.now c.next.new.self (rw c.remove-j.ensures.items (order_split (map g.C.Listed.cursor c.args.self.now.children.items) c.args.self.now.order.items c.remove-j.result c.requires c.remove-j.ensures.value)) (first_below g.C.Listed.cursor c.args.self.now.children.items c.args.self.now.order.items c.remove-j.result c.requires c.remove-j.ensures.value) c.index_mut.ensures.value c.requires in
+    merge_moved_steady g.C.Listed.cursor g.C.Listed.whole g.C.Listed.steady (seen (g.D.Disk.disk c.args.disk.now)) (Tells (g.D.Disk.disk c.args.disk.now)) c.args.self.now.direction c.args.self.now.children.items c.args.self.now.order.items c.put_if_live.new.order.items c.remove-j.result c.index_mut.result.now c.next.new.self c.index_mut.ensures.value (first_below g.C.Listed.cursor c.args.self.now.children.items c.args.self.now.order.items c.remove-j.result c.requires c.remove-j.ensures.value) v.0 v.1 v.2 c.next.ensures.list
+    (direction_at g.C.Listed.cursor c.args.self.now.direction c.args.self.now.children.items c.remove-j.result c.index_mut.result.now c.index_mut.ensures.value (first_below g.C.Listed.cursor c.args.self.now.children.items c.args.self.now.order.items c.remove-j.result c.requires c.remove-j.ensures.value) c.args.self.now.one_direction)
+    (g.met.C.Listed.in_order c.index_mut.result.now (seen (g.D.Disk.disk c.args.disk.now)) (each-of (λ x. g.C.Listed.whole x (seen (g.D.Disk.disk c.args.disk.now))) c.args.self.now.children.items c.remove-j.result c.index_mut.result.now (first_below g.C.Listed.cursor c.args.self.now.children.items c.args.self.now.order.items c.remove-j.result c.requires c.remove-j.ensures.value) c.index_mut.ensures.value is)).1
+    (g.met.C.Listed.in_place c.index_mut.result.now (seen (g.D.Disk.disk c.args.disk.now)) (each-of (λ x. g.C.Listed.whole x (seen (g.D.Disk.disk c.args.disk.now))) c.args.self.now.children.items c.remove-j.result c.index_mut.result.now (first_below g.C.Listed.cursor c.args.self.now.children.items c.args.self.now.order.items c.remove-j.result c.requires c.remove-j.ensures.value) c.index_mut.ensures.value is) (each-of (λ x. g.C.Listed.steady x (seen (g.D.Disk.disk c.args.disk.now))) c.args.self.now.children.items c.remove-j.result c.index_mut.result.now (first_below g.C.Listed.cursor c.args.self.now.children.items c.args.self.now.order.items c.remove-j.result c.requires c.remove-j.ensures.value) c.index_mut.ensures.value stands.children))
+    (c.in-Ok.ensures.moved told (each-of (λ x. g.C.Listed.whole x (seen (g.D.Disk.disk c.args.disk.now))) c.args.self.now.children.items c.remove-j.result c.index_mut.result.now (first_below g.C.Listed.cursor c.args.self.now.children.items c.args.self.now.order.items c.remove-j.result c.requires c.remove-j.ensures.value) c.index_mut.ensures.value is)) (c.in-Ok.ensures.steady told (each-of (λ x. g.C.Listed.whole x (seen (g.D.Disk.disk c.args.disk.now))) c.args.self.now.children.items c.remove-j.result c.index_mut.result.now (first_below g.C.Listed.cursor c.args.self.now.children.items c.args.self.now.order.items c.remove-j.result c.requires c.remove-j.ensures.value) c.index_mut.ensures.value is) (each-of (λ x. g.C.Listed.steady x (seen (g.D.Disk.disk c.args.disk.now))) c.args.self.now.children.items c.remove-j.result c.index_mut.result.now (first_below g.C.Listed.cursor c.args.self.now.children.items c.args.self.now.order.items c.remove-j.result c.requires c.remove-j.ensures.value) c.index_mut.ensures.value stands.children)) stands
+    (kept_lists g.C.Listed.cursor g.C.Listed.whole (seen (g.D.Disk.disk c.args.disk.now)) (Tells (g.D.Disk.disk c.args.disk.now)) c.args.self.now.direction c.args.self.now.children.items (set c.args.self.now.children.items c.remove-j.result c.next.new.self) (zipped-set (KeepsChild g.C.Listed.cursor g.C.Listed.whole (seen (g.D.Disk.disk c.args.disk.now)) (Tells (g.D.Disk.disk c.args.disk.now))) (kept_still g.C.Listed.cursor g.C.Listed.whole (g.D.Disk.disk c.args.disk.now)) c.args.self.now.children.items c.remove-j.result c.index_mut.result.now c.next.new.self c.index_mut.ensures.value (record { list = c.next.ensures.list; stays_whole = c.next.ensures.whole })) (seen (g.D.Disk.disk c.args.disk.now)))
+    (next_moved g.C.Listed.cursor c.args.self.now.direction c.args.self.now.children.items c.args.self.now.order.items c.remove-j.new.self.items c.remove-j.result c.index_mut.result.now c.next.new.self (rw c.remove-j.ensures.items (order_split (map g.C.Listed.cursor c.args.self.now.children.items) c.args.self.now.order.items c.remove-j.result c.requires c.remove-j.ensures.value)) (first_below g.C.Listed.cursor c.args.self.now.children.items c.args.self.now.order.items c.remove-j.result c.requires c.remove-j.ensures.value) c.index_mut.ensures.value g.C.Listed.whole (seen (g.D.Disk.disk c.args.disk.now)) (Tells (g.D.Disk.disk c.args.disk.now)) g.met.C.Listed.in_order c.put_if_live.new.order.items c.args.self.now.one_direction c.args.self.now.queue (rw (← c.deref.ensures.value) c.in-Ok-put_if_live.ensures.put) (rw (← c.deref.ensures.value) c.in-Ok-put_if_live.ensures.queue) (zipped-set (KeepsChild g.C.Listed.cursor g.C.Listed.whole (seen (g.D.Disk.disk c.args.disk.now)) (Tells (g.D.Disk.disk c.args.disk.now))) (kept_still g.C.Listed.cursor g.C.Listed.whole (g.D.Disk.disk c.args.disk.now)) c.args.self.now.children.items c.remove-j.result c.index_mut.result.now c.next.new.self c.index_mut.ensures.value (record { list = c.next.ensures.list; stays_whole = c.next.ensures.whole })) told is (c.in-Ok.ensures.moved told (each-of (λ x. g.C.Listed.whole x (seen (g.D.Disk.disk c.args.disk.now))) c.args.self.now.children.items c.remove-j.result c.index_mut.result.now (first_below g.C.Listed.cursor c.args.self.now.children.items c.args.self.now.order.items c.remove-j.result c.requires c.remove-j.ensures.value) c.index_mut.ensures.value is)))
+    (next_left g.C.Listed.cursor c.args.self.now.direction c.args.self.now.children.items c.args.self.now.order.items c.remove-j.new.self.items c.remove-j.result c.index_mut.result.now c.next.new.self (rw c.remove-j.ensures.items (order_split (map g.C.Listed.cursor c.args.self.now.children.items) c.args.self.now.order.items c.remove-j.result c.requires c.remove-j.ensures.value)) (first_below g.C.Listed.cursor c.args.self.now.children.items c.args.self.now.order.items c.remove-j.result c.requires c.remove-j.ensures.value) c.index_mut.ensures.value g.C.Listed.whole (seen (g.D.Disk.disk c.args.disk.now)) (Tells (g.D.Disk.disk c.args.disk.now)) g.met.C.Listed.in_order c.put_if_live.new.order.items c.args.self.now.one_direction c.args.self.now.queue (rw (← c.deref.ensures.value) c.in-Ok-put_if_live.ensures.put) (rw (← c.deref.ensures.value) c.in-Ok-put_if_live.ensures.queue) (zipped-set (KeepsChild g.C.Listed.cursor g.C.Listed.whole (seen (g.D.Disk.disk c.args.disk.now)) (Tells (g.D.Disk.disk c.args.disk.now))) (kept_still g.C.Listed.cursor g.C.Listed.whole (g.D.Disk.disk c.args.disk.now)) c.args.self.now.children.items c.remove-j.result c.index_mut.result.now c.next.new.self c.index_mut.ensures.value (record { list = c.next.ensures.list; stays_whole = c.next.ensures.whole })) told is)

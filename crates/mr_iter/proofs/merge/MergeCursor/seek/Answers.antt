@@ -1,7 +1,8 @@
 use Rattle.std.proofs.Common.{map}
 use Rattle.mr_base.specs.Disk.{Tells, seen}
 use Rattle.mr_iter.specs.Cursors.{CursorState}
-use Rattle.mr_iter.proofs.MergeSteps.{kept_list, kept_whole, kept_direction, found_merge, empty_queue, full_queue, total-map}
+use Rattle.mr_iter.proofs.MergeSteps.{kept_list, kept_lists, seek_left, kept_whole, kept_direction, found_merge, empty_queue, full_queue, total-map}
+use Rattle.mr_iter.proofs.Steady.{found_sought, merge_found_steady}
 use Rattle.mr_iter.proofs.merge.MergeCursor.seek.Goals as goal
 
 pub returns-in-Err-clause-list : goal.returns-in-Err-clause-list
@@ -54,4 +55,15 @@ invariant_of-self-in-Ok-fill_queue g c =
 
 pub returns-in-Ok-fill_queue-clause-found : goal.returns-in-Ok-fill_queue-clause-found
 returns-in-Ok-fill_queue-clause-found g c =
-    λ told is. found_merge g.C.Listed.cursor g.C.Listed.whole (seen (g.D.Disk.disk c.args.disk.now)) (Tells (g.D.Disk.disk c.args.disk.now)) c.args.self.now.direction g.met.C.Listed.in_order c.args.key.now c.args.self.now.children.items c.seek_all.new.children.items c.fill_queue.new.order.items c.seek_all.ensures.keeps c.in-Ok.ensures.found c.args.self.now.one_direction (rw (← c.deref.ensures.value) c.in-Ok-fill_queue.ensures.queue) (rw (← c.deref.ensures.value) c.in-Ok-fill_queue.ensures.all) told is
+    λ told is. found_merge g.C.Listed.cursor g.C.Listed.whole (seen (g.D.Disk.disk c.args.disk.now)) (Tells (g.D.Disk.disk c.args.disk.now)) c.args.self.now.direction g.met.C.Listed.in_order g.C.Listed.steady c.args.key.now c.args.self.now.children.items c.seek_all.new.children.items c.fill_queue.new.order.items c.seek_all.ensures.keeps c.in-Ok.ensures.found c.args.self.now.one_direction (rw (← c.deref.ensures.value) c.in-Ok-fill_queue.ensures.queue) (rw (← c.deref.ensures.value) c.in-Ok-fill_queue.ensures.all) told is
+
+pub returns-in-Ok-fill_queue-clause-sought : goal.returns-in-Ok-fill_queue-clause-sought
+returns-in-Ok-fill_queue-clause-sought g c =
+    found_sought g.C.Listed.cursor g.C.Listed.whole g.C.Listed.steady (seen (g.D.Disk.disk c.args.disk.now)) (Tells (g.D.Disk.disk c.args.disk.now)) c.args.self.now.direction c.args.key.now c.args.self.now.children.items c.seek_all.new.children.items c.in-Ok.ensures.found
+
+pub returns-in-Ok-fill_queue-clause-steady : goal.returns-in-Ok-fill_queue-clause-steady
+returns-in-Ok-fill_queue-clause-steady g c = λ told is.
+    merge_found_steady g.C.Listed.cursor g.C.Listed.whole g.C.Listed.steady (seen (g.D.Disk.disk c.args.disk.now)) (Tells (g.D.Disk.disk c.args.disk.now)) c.args.self.now.direction c.args.key.now c.args.self.now.children.items c.seek_all.new.children.items c.fill_queue.new.order.items c.seek_all.ensures.keeps c.in-Ok.ensures.found c.args.self.now.one_direction told is
+    (kept_lists g.C.Listed.cursor g.C.Listed.whole (seen (g.D.Disk.disk c.args.disk.now)) (Tells (g.D.Disk.disk c.args.disk.now)) c.args.self.now.direction c.args.self.now.children.items c.seek_all.new.children.items c.seek_all.ensures.keeps (seen (g.D.Disk.disk c.args.disk.now)))
+    (found_merge g.C.Listed.cursor g.C.Listed.whole (seen (g.D.Disk.disk c.args.disk.now)) (Tells (g.D.Disk.disk c.args.disk.now)) c.args.self.now.direction g.met.C.Listed.in_order g.C.Listed.steady c.args.key.now c.args.self.now.children.items c.seek_all.new.children.items c.fill_queue.new.order.items c.seek_all.ensures.keeps c.in-Ok.ensures.found c.args.self.now.one_direction (rw (← c.deref.ensures.value) c.in-Ok-fill_queue.ensures.queue) (rw (← c.deref.ensures.value) c.in-Ok-fill_queue.ensures.all) told is)
+    (seek_left g.C.Listed.cursor g.C.Listed.whole (seen (g.D.Disk.disk c.args.disk.now)) (Tells (g.D.Disk.disk c.args.disk.now)) c.args.self.now.direction g.met.C.Listed.in_order c.args.self.now.children.items c.seek_all.new.children.items c.fill_queue.new.order.items c.seek_all.ensures.keeps c.args.self.now.one_direction (rw (← c.deref.ensures.value) c.in-Ok-fill_queue.ensures.queue) (rw (← c.deref.ensures.value) c.in-Ok-fill_queue.ensures.all) told is)

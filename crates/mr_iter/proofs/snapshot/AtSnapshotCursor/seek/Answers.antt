@@ -1,9 +1,9 @@
-use Rattle.std.proofs.Common.{◌≡◌, None}
+use Rattle.std.proofs.Common.{◌≡◌, None, true, ◌∙◌, ap}
 use Rattle.mr_iter.specs.Cursors.{left, with_current}
 use Rattle.mr_base.specs.Disk.{Image, seen}
-use Rattle.mr_iter.specs.Snapshots.{shown, key_of}
-use Rattle.mr_iter.specs.SnapshotLaws.{snapshot_found}
-use Rattle.mr_iter.proofs.Runs.{run_stays, run_stop, run_image}
+use Rattle.mr_iter.specs.Snapshots.{shown, key_of, snapshot_state, IsInOrder-shown}
+use Rattle.mr_iter.specs.SnapshotLaws.{snapshot_found, found_place}
+use Rattle.mr_iter.proofs.Runs.{run_stays, run_steady, run_stop, run_image}
 use Rattle.mr_iter.proofs.snapshot.AtSnapshotCursor.seek.Goals as goal
 
 pub returns-in-Ok-settle-clause-whole : goal.returns-in-Ok-settle-clause-whole
@@ -22,3 +22,11 @@ pub returns-in-Ok-settle-clause-found : goal.returns-in-Ok-settle-clause-found
 returns-in-Ok-settle-clause-found g c =
     λ told is. snapshot_found c.args.self.now.number (g.C.Listed.cursor c.args.self.now.inner) (g.C.Listed.cursor c.seek.new.self) (g.C.Listed.cursor c.settle.new.inner) c.args.key.now (seen (g.D.Disk.disk c.args.disk.now)) (g.met.C.Listed.in_order c.args.self.now.inner (seen (g.D.Disk.disk c.args.disk.now)) is).1 (c.in-Ok.ensures.found told is)
     (run_image g.C.Listed.whole (g.D.Disk.disk c.args.disk.now) (g.D.Disk.disk c.seek.new.disk) (g.D.Disk.disk c.settle.new.disk) c.args.self.now.inner c.seek.new.self c.settle.new.inner c.seek.ensures.counts.tells c.seek.ensures.same c.seek.ensures.whole (λ (image : Image). shown c.args.self.now.number None (left (g.C.Listed.cursor c.seek.new.self) image) ≡ with_current (g.C.Listed.cursor c.settle.new.inner).current (shown c.args.self.now.number (key_of (g.C.Listed.cursor c.settle.new.inner).current) ((g.C.Listed.cursor c.settle.new.inner).rest image))) c.in-Ok-settle.ensures.settled told is)
+
+pub returns-in-Ok-settle-clause-steady : goal.returns-in-Ok-settle-clause-steady
+returns-in-Ok-settle-clause-steady g c = λ told is. (
+  run_steady g.C.Listed.whole (g.D.Disk.disk c.args.disk.now) (g.D.Disk.disk c.seek.new.disk) (g.D.Disk.disk c.settle.new.disk) c.args.self.now.inner c.seek.new.self c.settle.new.inner c.seek.ensures.counts.tells c.seek.ensures.same c.seek.ensures.whole g.C.Listed.steady c.in-Ok-settle.ensures.steady told is (c.in-Ok.ensures.steady told is),
+  found_place (g.C.Listed.cursor c.args.self.now.inner).direction c.args.key.now (snapshot_state c.args.self.now.number true (g.C.Listed.cursor c.settle.new.inner)) (seen (g.D.Disk.disk c.args.disk.now)) (shown c.args.self.now.number None ((g.C.Listed.cursor c.args.self.now.inner).versions (seen (g.D.Disk.disk c.args.disk.now))))
+      (IsInOrder-shown (g.C.Listed.cursor c.args.self.now.inner).direction c.args.self.now.number None ((g.C.Listed.cursor c.args.self.now.inner).versions (seen (g.D.Disk.disk c.args.disk.now))) (g.met.C.Listed.in_order c.args.self.now.inner (seen (g.D.Disk.disk c.args.disk.now)) is).1)
+      (ap (shown c.args.self.now.number None) (c.settle.ensures.list.versions (seen (g.D.Disk.disk c.args.disk.now)) ∙ c.seek.ensures.list.versions (seen (g.D.Disk.disk c.args.disk.now)))) (returns-in-Ok-settle-clause-found g c told is),
+)
