@@ -12,7 +12,9 @@ use Rattle.mr_types.specs.declared.statement.Statement.{Statement}
 use Rattle.mr_types.specs.declared.statement.Statement.TheVariants as statement
 use Rattle.mr_spec.specs.Truth.{Where, where_of}
 use Rattle.mr_spec.specs.Database.{table_of, replay}
-use Rattle.mr_spec.specs.Progress.{Scene, Progress, Refusal}
+use Rattle.mr_spec.specs.declared.progress.Progress.{Progress}
+use Rattle.mr_spec.specs.declared.progress.Refusal.{Refusal}
+use Rattle.mr_spec.specs.Progress.{Scene}
 use Rattle.mr_spec.specs.Changes.{insert_changes, replace_changes, update_changes, delete_changes}
 use Rattle.mr_spec.specs.World.{World, with_rows, committed, kept_in, changes_by, entered, is_stale}
 use Rattle.mr_spec.specs.Outcome.{Outcome, answered}

@@ -10,7 +10,9 @@ use Rattle.mr_types.specs.Refusals.{◌>>=◌, ◌>>◌, refuse_where, in_turn}
 use Rattle.mr_spec.specs.Rows.{clashes, without}
 use Rattle.mr_spec.specs.Truth.{Where, known_columns, right_literals}
 use Rattle.mr_spec.specs.Claims.{claimed}
-use Rattle.mr_spec.specs.Progress.{Scene, Progress, Refusal, told, seen_rows, advanced}
+use Rattle.mr_spec.specs.declared.progress.Progress.{Progress}
+use Rattle.mr_spec.specs.declared.progress.Refusal.{Refusal}
+use Rattle.mr_spec.specs.Progress.{Scene, told, seen_rows, advanced}
 use Rattle.mr_spec.specs.NewRows.{drawn, new_row, insert_tests, fields_of}
 use Rattle.mr_spec.specs.Setting.{with_item, same_fields, updated_row, update_tests}
 

@@ -14,7 +14,8 @@ use Rattle.mr_types.specs.declared.statement.ItemValue.TheVariants as item
 use Rattle.mr_types.specs.Refusals.{◌>>=◌, ◌>>◌, refuse_where, some_or, each, in_turn}
 use Rattle.mr_types.specs.Values.{assign_to}
 use Rattle.mr_spec.specs.Rows.{place_of}
-use Rattle.mr_spec.specs.Progress.{Scene, Progress}
+use Rattle.mr_spec.specs.declared.progress.Progress.{Progress}
+use Rattle.mr_spec.specs.Progress.{Scene}
 
 -- ---- the hidden number and the stamp
 

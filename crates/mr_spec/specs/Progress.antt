@@ -3,6 +3,8 @@ use Rattle.std.specs.Prelude.{ℕ, ◌+◌, Bool, List, ◌++◌, fold, Result, 
 use Rattle.mr_types.specs.declared.definition.TableDef.{TableDef}
 use Rattle.mr_types.specs.declared.row.Row.{Row}
 use Rattle.mr_types.specs.declared.row.Change.{Change}
+use Rattle.mr_spec.specs.declared.progress.Progress.{Progress}
+use Rattle.mr_spec.specs.declared.progress.Refusal.{Refusal}
 use Rattle.mr_spec.specs.Rows.{visible, rows_after}
 
 -- what a row's handling looks at: the definition, the moment, and of a change whether another session holds a claim of it
@@ -12,19 +14,6 @@ pub record Scene : Type 0 where
   pub moment : ℕ
   pub held : Change → Bool
   pub changed : Change → Bool
-
--- how far the statement is: the session's rows with its changes so far, these changes, the next hidden number, and the
--- count of rows for the reply
-pub record Progress : Type 0 where
-  pub rows : List Row
-  pub changes : List Change
-  pub next : ℕ
-  pub count : ℕ
-
--- a refusal of a writing statement: the hidden numbers that it drew stay drawn
-pub record Refusal : Type 0 where
-  pub code : ℕ
-  pub next : ℕ
 
 -- an answer as it is, and a refusal with the next hidden number
 abbrev pub told : {A : Type 0} → ℕ → Result A ℕ → Result A Refusal

@@ -12,7 +12,9 @@ use Rattle.mr_spec.specs.Select.{select_tests, selected}
 use Rattle.mr_spec.specs.Weight.{total_weight}
 use Rattle.mr_spec.specs.Database.{table_of, replay, changes_of, on_table}
 use Rattle.mr_spec.specs.Claims.{has_claim_in}
-use Rattle.mr_spec.specs.Progress.{Scene, Progress, Refusal, told}
+use Rattle.mr_spec.specs.declared.progress.Progress.{Progress}
+use Rattle.mr_spec.specs.declared.progress.Refusal.{Refusal}
+use Rattle.mr_spec.specs.Progress.{Scene, told}
 use Rattle.mr_spec.specs.World.{World, view_of, later_commits, is_stale, held_changes, changes_by, rolled_back, keeping, entered, with_number}
 use Rattle.mr_spec.specs.Outcome.{Outcome, refused, done, answered}
 

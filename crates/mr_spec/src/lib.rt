@@ -5,6 +5,7 @@
 mod bound;
 mod drafts;
 mod laws;
+mod progress;
 mod truth;
 mod world;
 
@@ -15,5 +16,6 @@ pub use laws::{
     refusals_leave_the_world, replay_is_what_is_seen, same_values_collide, snapshots_stay,
     work_moves_the_moment_alone,
 };
+pub use progress::{Progress, Refusal};
 pub use truth::Truth;
 pub use world::{RowList, Savepoint, Session, SessionList, Table, TableList, Txn};
