@@ -157,14 +157,16 @@ impl GateLog {
 
     /// How many records there are from the first place on.
     pub fn records(&self) -> u64
-        ensures { result ≡ self.now.records }
+        ensures records { result ≡ self.now.records }
+        ensures few { self.now.from + 5 * self.now.records + 1 < 2 ^ 64 }
     {
         self.records
     }
 
     /// The place where the records end, and the next one will begin.
     pub fn end(&self) -> u64
-        ensures { result ≡ self.now.end }
+        ensures end { result ≡ self.now.end }
+        ensures bounded { self.now.end + 1 < 2 ^ 64 }
     {
         self.end
     }
