@@ -1,0 +1,5 @@
+pub mod Lists
+pub mod Reading
+pub mod FieldLaws
+pub mod ValueLaws
+pub mod RowLaws
