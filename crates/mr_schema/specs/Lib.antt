@@ -1,2 +1,4 @@
 pub mod Said
 pub mod Widths
+pub mod DefinitionForm
+pub mod DefinitionFitting

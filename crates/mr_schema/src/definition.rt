@@ -25,7 +25,7 @@ fn may_hold_stamp(column: &ColumnDef) -> bool
 
 /// The place of the column of this name: 1054 where it isn't there, 1064 where it may hold no stamp.
 fn stamp_column(columns: &[ColumnDef], name: &[u8]) -> Result<u8, Refused>
-    requires few { length columns.now ≤ 64 }
+    requires few { length columns.now ≤ 255 }
     ensures { Answers result (column_for_stamp columns.now name.now) }
 {
     let Some(place) = place_in(columns, name) else {
@@ -42,8 +42,12 @@ fn stamp_column(columns: &[ColumnDef], name: &[u8]) -> Result<u8, Refused>
     }
 }
 
-fn ttl_for(columns: &[ColumnDef], options: &CommentOptions) -> Result<Option<Ttl>, Refused>
-    requires few { length columns.now ≤ 64 }
+/// The TTL of these options, or the first refusal of its column.
+pub(crate) fn ttl_for(
+    columns: &[ColumnDef],
+    options: &CommentOptions,
+) -> Result<Option<Ttl>, Refused>
+    requires few { length columns.now ≤ 255 }
     ensures { Answers result (ttl_of_options columns.now options.now.duration options.now.column) }
 {
     match (options.duration, &options.column) {

@@ -1,0 +1,8 @@
+use Rattle.std.proofs.Common.{◌≡◌, ◌-◌}
+use Rattle.mr_fields.specs.Fields.{listed_in}
+use Rattle.mr_fields.specs.Given.{with_front}
+use Rattle.mr_schema.specs.DefinitionForm.{key_in}
+use Rattle.mr_schema.proofs.definition_read.each_key_at.Given as goal
+
+abbrev pub invariant-reading : goal.invariant-reading
+invariant-reading l = listed_in (key_in l.limit) l.count l.bytes ≡ with_front l.keys (listed_in (key_in l.limit) (l.count - l.i) l.rest)
