@@ -1,0 +1,5 @@
+pub mod CommitLaws
+mod Stopping
+mod Holding
+mod KeysFit
+mod Worked

@@ -1,0 +1,5 @@
+pub mod CommitForm
+pub mod CommitFitting
+pub mod CommitPromises
+pub mod Commits
+pub mod Counting
