@@ -1,0 +1,6 @@
+//! Replies as they are printed.
+#![tactic(auto)]
+
+mod replies;
+
+pub use replies::reply_text;
