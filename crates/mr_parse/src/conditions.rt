@@ -175,7 +175,7 @@ fn column_test(alloc: Global, tokens: &mut Tokens<'_, '_>) -> Result<Expr, Unrea
     plain_test(alloc, tokens, column)
 }
 
-#[tactic(auto, unfolding(mr_spec::specs::ConditionPhrases::test))]
+#[tactic(auto, using(crate::proofs::Tests::by_front))]
 fn test(alloc: Global, tokens: &mut Tokens<'_, '_>) -> Result<Expr, Unread>
     ensures { Reads (spec.test tokens.old) result tokens.new }
 {

@@ -13,8 +13,6 @@ mod select;
 mod sessions;
 mod statements;
 mod tables;
-#[cfg(test)]
-mod tests;
 mod tokens;
 mod unread;
 mod words;
