@@ -32,7 +32,7 @@ pub fn kind_at(def: &TableDef, at: usize) -> Kind
 }
 
 /// The order of two rows by the values at a place.
-fn value_order(def: &TableDef, at: usize, r: &Row, s: &Row) -> Ordering
+pub(crate) fn value_order(def: &TableDef, at: usize, r: &Row, s: &Row) -> Ordering
     ensures { result ≡ order_of (kind_in def.now at) (value_in r.now at) (value_in s.now at) }
 {
     let kind = kind_at(def, at);

@@ -1,0 +1,21 @@
+use Rattle.std.proofs.Common.{refl, false}
+use Rattle.mr_model.specs.Worlds.{world_in}
+use Rattle.mr_model.proofs.RunSteps.{at_start, goes_on_at, at_end}
+use Rattle.mr_model.proofs.script.run_from.Goals as goal
+
+pub loop-statement-init : goal.loop-statement-init
+loop-statement-init g c = record {
+  few = c.requires.few;
+  goes_on = at_start c.args.statements.now (g.C.Clock.clock c.args.clock.now) (record { engine = c.args.engine; output = c.new.result; failed = false }) c.new.ensures.items refl;
+}
+
+pub loop-statement-preserved : goal.loop-statement-preserved
+loop-statement-preserved g c = record {
+  few = c.in_ok-serve.ensures.few;
+  goes_on = goes_on_at (world_in c.args.engine) c.args.statements.now c.loop-statement.statement-index (g.C.Clock.clock c.args.clock.now) (g.C.Clock.clock c.loop-statement.clock) (g.C.Clock.clock c.serve.new.clock)
+      c.loop-statement.player c.serve.new.self c.statement-item.result c.loop-statement-test.true c.statement-item.is c.loop-statement.invariant.goes_on c.in_ok-serve.ensures.served;
+}
+
+pub returns : goal.returns
+returns g c = at_end (world_in c.args.engine) c.args.statements.now c.loop-statement.statement-index (g.C.Clock.clock c.args.clock.now) (g.C.Clock.clock c.loop-statement.clock)
+    c.loop-statement.player (record { output = c.from_vec.result; failed = c.loop-statement.player.failed }) c.loop-statement-test.false c.loop-statement.invariant.goes_on c.from_vec.ensures refl

@@ -1,0 +1,188 @@
+//! The engine: commits, sessions, building indexes, hidden numbers and the moment, and how they
+//! change.
+
+ghost use Rattle.std.specs.Prelude.{◌≡◌, ◌∷◌, [], codes, OnOk, IfOk};
+ghost use Rattle.mr_spec.specs.World.{fresh as fresh_of, using_table};
+ghost use Rattle.mr_spec.specs.Replay.{reopened};
+
+use crate::copies::in_front;
+use mr_base::{Blob, Memory};
+use mr_spec::{Session, SessionList, Txn};
+use mr_types::{ChangeList, Commit, CommitBody, IndexDef};
+use sqlite_items::Items;
+use std::alloc::Global;
+use std::mem;
+
+/// That a table has this building index, or none.
+#[derive(Drop)]
+pub struct Building {
+    pub table: Blob,
+    pub key: Option<IndexDef>,
+}
+
+/// A table's next hidden number.
+#[derive(Drop)]
+pub struct NextNumber {
+    pub table: Blob,
+    pub number: u64,
+}
+
+/// All that statements look at and change. Of the entries of `building` and `numbers` a table's
+/// first one tells.
+#[derive(Drop)]
+pub struct Engine {
+    pub commits: Items<Commit>,
+    pub here: Session,
+    pub others: SessionList,
+    pub building: Items<Building>,
+    pub numbers: Items<NextNumber>,
+    pub moment: u64,
+}
+
+/// A session that was just made.
+pub fn fresh_session(alloc: Global, name: &[u8]) -> Result<Session, Memory>
+    ensures { IfOk result (λ s. s ≡ fresh_of name.now) }
+{
+    Ok(Session {
+        name: Blob::from_slice(alloc, name)?,
+        txn: None,
+    })
+}
+
+impl Engine {
+    ghost use Rattle.mr_spec.specs.World.{with_txn, with_commit, with_rows as rows_kept, committed, rolled_back, keeping, entered, with_number, with_building};
+    ghost use Rattle.mr_model.specs.Worlds.{world_in};
+
+    /// Without commits: session `main` alone, outside a transaction.
+    pub fn new(alloc: Global) -> Result<Engine, Memory>
+        ensures world { IfOk result (λ e. world_in e ≡ reopened []) }
+        ensures fresh { IfOk result (λ e. e.commits ≡ []) }
+    {
+        Ok(Engine {
+            commits: Items::new(alloc),
+            here: fresh_session(alloc, b"main")?,
+            others: Items::new(alloc),
+            building: Items::new(alloc),
+            numbers: Items::new(alloc),
+            moment: 0,
+        })
+    }
+
+    /// The current session has this transaction, or none.
+    pub fn set_txn(&mut self, txn: Option<Txn>)
+        ensures { world_in self.new ≡ with_txn txn (world_in self.old) }
+    {
+        self.here.txn = txn;
+    }
+
+    /// A commit more, at the engine's moment.
+    pub fn commit(&mut self, body: CommitBody) -> Result<(), Memory>
+        ensures { OnOk result (world_in self.new ≡ with_commit body (world_in self.old)) }
+    {
+        self.commits.push(Commit {
+            moment: self.moment,
+            body,
+        })?;
+        Ok(())
+    }
+
+    /// A commit of these changes; no change is no commit.
+    pub fn commit_rows(&mut self, changes: ChangeList) -> Result<(), Memory>
+        ensures { OnOk result (world_in self.new ≡ rows_kept changes (world_in self.old)) }
+    {
+        if changes.is_empty() {
+            return Ok(());
+        }
+        self.commit(CommitBody::Rows(changes))
+    }
+
+    /// The current transaction, if there is one, is committed.
+    pub fn commit_txn(&mut self) -> Result<(), Memory>
+        ensures { OnOk result (world_in self.new ≡ committed (world_in self.old)) }
+    {
+        match self.here.txn.take() {
+            None => Ok(()),
+            Some(txn) => self.commit_rows(txn.changes),
+        }
+    }
+
+    /// And rolled back.
+    pub fn roll_back(&mut self)
+        ensures { world_in self.new ≡ rolled_back (world_in self.old) }
+    {
+        self.set_txn(None);
+    }
+
+    /// The changes of a statement: of the transaction, or a commit by themselves.
+    pub fn keep(&mut self, changes: ChangeList) -> Result<(), Memory>
+        ensures { OnOk result (world_in self.new ≡ keeping changes (world_in self.old)) }
+    {
+        match self.here.txn.take() {
+            None => self.commit_rows(changes),
+            Some(mut txn) => {
+                txn.changes.append(changes)?;
+                self.set_txn(Some(txn));
+                Ok(())
+            }
+        }
+    }
+
+    /// The table's next hidden number.
+    pub fn set_number(&mut self, alloc: Global, table: &[u8], number: u64) -> Result<(), Memory>
+        ensures { OnOk result (world_in self.new ≡ with_number table.now number (world_in self.old)) }
+    {
+        let table = Blob::from_slice(alloc, table)?;
+        let others = mem::replace(&mut self.numbers, Items::new(alloc));
+        self.numbers = in_front(alloc, NextNumber { table, number }, others)?;
+        Ok(())
+    }
+
+    /// The table's building index.
+    pub fn set_building(
+        &mut self,
+        alloc: Global,
+        table: &[u8],
+        key: Option<IndexDef>,
+    ) -> Result<(), Memory>
+        ensures world { OnOk result (world_in self.new ≡ with_building table.now key (world_in self.old)) }
+        ensures entry { OnOk result (self.new ≡ record self.old { building = record { table = table.now; key = key } ∷ self.old.building }) }
+    {
+        let table = Blob::from_slice(alloc, table)?;
+        let others = mem::replace(&mut self.building, Items::new(alloc));
+        self.building = in_front(alloc, Building { table, key }, others)?;
+        Ok(())
+    }
+
+    /// The current session has used the table, and its snapshot is fixed.
+    pub fn enter(&mut self, alloc: Global, table: &[u8]) -> Result<(), Memory>
+        ensures { OnOk result (world_in self.new ≡ entered table.now (world_in self.old)) }
+    {
+        let commits = self.commits.len() as u64;
+        match self.here.txn.take() {
+            None => Ok(()),
+            Some(txn) => {
+                self.set_txn(Some(using(alloc, table, commits, txn)?));
+                Ok(())
+            }
+        }
+    }
+}
+
+/// The transaction has used the table, and its snapshot is fixed, at the latest, at this number of
+/// commits.
+fn using(alloc: Global, table: &[u8], commits: u64, txn: Txn) -> Result<Txn, Memory>
+    ensures { IfOk result (λ t. t ≡ using_table table.now commits txn) }
+{
+    let Txn {
+        snapshot,
+        changes,
+        savepoints,
+        used,
+    } = txn;
+    Ok(Txn {
+        snapshot: Some(snapshot.unwrap_or(commits)),
+        changes,
+        savepoints,
+        used: in_front(alloc, Blob::from_slice(alloc, table)?, used)?,
+    })
+}
