@@ -4,7 +4,7 @@ use Rattle.std.proofs.lemmas.List.{take_all}
 use Rattle.std.specs.List.{insert}
 use Rattle.std.proofs.lemmas.List.Edits.{insert-append_left, insert-append_right}
 use Rattle.mr_memtable.specs.declared.slot.Slot.{Slot}
-use Rattle.mr_memtable.specs.declared.chunks.Chunk.{Chunk}
+use Rattle.mr_memtable.specs.declared.chunk.Chunk.{Chunk}
 use Rattle.mr_memtable.specs.Chunks.{listed, sizes, sum_of, HaveRoom, AreSpare}
 
 pub size_is : (cs : List Chunk) (i : ℕ) (c : Chunk) → i < length cs → c ≡ get_or cs i c → get_or (sizes cs) i 0 ≡ length c.slots.items
@@ -12,9 +12,9 @@ size_is [] i c lt at = absurd (omega arith)
 size_is (b ∷ bs) zero c lt at = ap (λ (d : Chunk). length d.slots.items) (sym at)
 size_is (b ∷ bs) (suc i) c lt at = size_is bs i c (omega arith) at
 
-pub room_is : (cs : List Chunk) (i : ℕ) (c : Chunk) → i < length cs → c ≡ get_or cs i c → HaveRoom cs → 512 ≤ vec_capacity c.slots
+pub room_is : (cs : List Chunk) (i : ℕ) (c : Chunk) → i < length cs → c ≡ get_or cs i c → HaveRoom cs → 256 ≤ vec_capacity c.slots
 room_is [] i c lt at all = absurd (omega arith)
-room_is (b ∷ bs) zero c lt at all = subst (λ (d : Chunk). 512 ≤ vec_capacity d.slots) (sym at) all.0
+room_is (b ∷ bs) zero c lt at all = subst (λ (d : Chunk). 256 ≤ vec_capacity d.slots) (sym at) all.0
 room_is (b ∷ bs) (suc i) c lt at all = room_is bs i c (omega arith) at all.1
 
 pub length-sizes : (cs : List Chunk) → length (sizes cs) ≡ length cs
@@ -31,12 +31,12 @@ sizes-insert cs zero c le = refl
 sizes-insert [] (suc i) c le = absurd (omega arith)
 sizes-insert (b ∷ bs) (suc i) c le = ap (λ (ns : List ℕ). length b.slots.items ∷ ns) (sizes-insert bs i c (omega arith))
 
-pub rooms-set : (cs : List Chunk) (i : ℕ) (c : Chunk) → HaveRoom cs → 512 ≤ vec_capacity c.slots → HaveRoom (set cs i c)
+pub rooms-set : (cs : List Chunk) (i : ℕ) (c : Chunk) → HaveRoom cs → 256 ≤ vec_capacity c.slots → HaveRoom (set cs i c)
 rooms-set [] i c all here = tt
 rooms-set (b ∷ bs) zero c all here = (here, all.1)
 rooms-set (b ∷ bs) (suc i) c all here = (all.0, rooms-set bs i c all.1 here)
 
-pub rooms-insert : (cs : List Chunk) (i : ℕ) (c : Chunk) → i ≤ length cs → HaveRoom cs → 512 ≤ vec_capacity c.slots → HaveRoom (insert cs i c)
+pub rooms-insert : (cs : List Chunk) (i : ℕ) (c : Chunk) → i ≤ length cs → HaveRoom cs → 256 ≤ vec_capacity c.slots → HaveRoom (insert cs i c)
 rooms-insert cs zero c le all here = (here, all)
 rooms-insert [] (suc i) c le all here = absurd (omega arith)
 rooms-insert (b ∷ bs) (suc i) c le all here = (all.0, rooms-insert bs i c (omega arith) all.1 here)
@@ -72,10 +72,10 @@ listed-split cs i c low high half lt at el eh = ap (λ (m : ℕ). listed (insert
     go (b ∷ bs) (suc i) lt at = ap (λ (ys : List Slot). b.slots.items ++ ys) (go bs i (omega arith) at)
 
 -- what a slice to the end has
-pub rest_of : (s xs : List Slot) (h : ℕ) → s ≡ [] → s ++ take (length xs - h) (drop h xs) ≡ drop h xs
-rest_of s xs h empty = ap (λ (ys : List Slot). ys ++ take (length xs - h) (drop h xs)) empty ∙ take_all (length xs - h) (drop h xs) (omega (arith, length-drop h xs))
+pub rest_of : {A : Type 0} (s xs : List A) (h : ℕ) → s ≡ [] → s ++ take (length xs - h) (drop h xs) ≡ drop h xs
+rest_of {A = A} s xs h empty = ap (λ (ys : List A). ys ++ take (length xs - h) (drop h xs)) empty ∙ take_all (length xs - h) (drop h xs) (omega (arith, length-drop h xs))
 
-pub last_spare : (cs : List Chunk) (c : Chunk) → AreSpare (cs ++ c ∷ []) → (512 ≤ vec_capacity c.slots) × (length c.slots.items < 1)
+pub last_spare : (cs : List Chunk) (c : Chunk) → AreSpare (cs ++ c ∷ []) → (256 ≤ vec_capacity c.slots) × (length c.slots.items < 1)
 last_spare [] c all = all.0
 last_spare (b ∷ bs) c all = last_spare bs c all.1
 
@@ -99,6 +99,6 @@ pub first_sizes : (c : Chunk) (cs : List Chunk) (old : List Slot) (s : Slot) →
 first_sizes c [] old s none empty is = ap (λ (ys : List Slot). length ys ∷ []) (is ∙ one_slot old s empty)
 first_sizes c (b ∷ bs) old s none empty is = cc
 
-pub first_rooms : (c : Chunk) (cs : List Chunk) → cs ≡ [] → 512 ≤ vec_capacity c.slots → HaveRoom (c ∷ cs)
+pub first_rooms : (c : Chunk) (cs : List Chunk) → cs ≡ [] → 256 ≤ vec_capacity c.slots → HaveRoom (c ∷ cs)
 first_rooms c [] none room = (room, tt)
 first_rooms c (b ∷ bs) none room = cc

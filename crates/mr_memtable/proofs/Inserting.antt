@@ -6,7 +6,7 @@ use Rattle.mr_base.specs.declared.stop.Direction.{Direction}
 use Rattle.mr_iter.specs.Versions.{Version, as_version, version_cmp, IsInOrder, place_in}
 use Rattle.mr_iter.specs.Order.{version_total, each-append, IsInOrder-place_in}
 use Rattle.mr_memtable.specs.declared.slot.Slot.{Slot}
-use Rattle.mr_memtable.specs.declared.chunks.Chunk.{Chunk}
+use Rattle.mr_memtable.specs.declared.chunk.Chunk.{Chunk}
 use Rattle.mr_memtable.specs.Slots.{version_at, versions_at, Fits, IsPlace}
 use Rattle.mr_memtable.specs.Chunks.{listed, sizes, sum_of, AllFit}
 use Rattle.mr_memtable.specs.Tables.{versions_in}

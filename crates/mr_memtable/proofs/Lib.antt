@@ -1,6 +1,7 @@
 mod ChunkLaws
 mod Filling
 mod Places
+mod Fronts
 mod Ordered
 mod Inserting
 mod Stands

@@ -12,7 +12,7 @@ use Rattle.mr_base.specs.declared.stop.Direction.{Direction}
 use Rattle.mr_iter.specs.Versions.{Version, as_version, key_cmp, version_cmp, IsAtFront, IsInOrder, place_in, from_key}
 use Rattle.mr_iter.specs.Order.{version_total, key_total, by_key, not_before}
 use Rattle.mr_memtable.specs.declared.slot.Slot.{Slot}
-use Rattle.mr_memtable.specs.Slots.{part, version_at, versions_at, Fits, goes_before, no_slot, IsPlace}
+use Rattle.mr_memtable.specs.Slots.{part, front_of, version_at, versions_at, Fits, goes_before, no_slot, IsPlace}
 
 -- more bytes behind those of the slots
 
@@ -32,7 +32,7 @@ versions_more bytes more [] all = refl
 versions_more bytes more (s ∷ ss) all = let e = version_more bytes more s all.0 in let es = versions_more bytes more ss all.1 in cc
 
 pub fits_more : (bytes more : List ℕ) (s : Slot) → Fits bytes s → Fits (bytes ++ more) s
-fits_more bytes more s fit = record { key = fit.key; value = fit.value; within = omega (arith, fit.within, length-append bytes more); sequence = fit.sequence }
+fits_more bytes more s fit = record { key = fit.key; value = fit.value; within = omega (arith, fit.within, length-append bytes more); sequence = fit.sequence; front = fit.front ∙ ap front_of (sym (part_more bytes more s.start s.middle fit.key (omega (arith, fit.value, fit.within)))) }
 
 pub all_fit_more : (bytes more : List ℕ) (ss : List Slot) → AllByRecursion (Fits bytes) ss → AllByRecursion (Fits (bytes ++ more)) ss
 all_fit_more bytes more [] all = tt

@@ -8,7 +8,7 @@ use Rattle.std.proofs.Math.ListN.{get_or-append}
 use Rattle.mr_base.specs.declared.stop.Direction.{Direction}
 use Rattle.mr_iter.specs.Versions.{Version}
 use Rattle.mr_memtable.specs.declared.slot.Slot.{Slot}
-use Rattle.mr_memtable.specs.declared.chunks.Chunk.{Chunk}
+use Rattle.mr_memtable.specs.declared.chunk.Chunk.{Chunk}
 use Rattle.mr_memtable.specs.Slots.{Fits, goes_before, no_slot, IsPlace}
 use Rattle.mr_memtable.specs.Chunks.{listed, sizes, sum_of, first_slot, AllFit}
 

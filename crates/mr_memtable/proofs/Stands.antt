@@ -4,7 +4,7 @@ use Rattle.std.proofs.lemmas.Bool.{cases_lt}
 use Rattle.std.proofs.lemmas.Bool.Decides.{nat_tests}
 use Rattle.mr_iter.specs.Versions.{first}
 use Rattle.mr_memtable.specs.declared.slot.Slot.{Slot}
-use Rattle.mr_memtable.specs.declared.chunks.Chunk.{Chunk}
+use Rattle.mr_memtable.specs.declared.chunk.Chunk.{Chunk}
 use Rattle.mr_memtable.specs.Slots.{version_at, versions_at, Fits, no_slot}
 use Rattle.mr_memtable.specs.Chunks.{listed, sizes, sum_of, AllFit}
 use Rattle.mr_memtable.specs.Tables.{IsStanding, flat, versions_in}

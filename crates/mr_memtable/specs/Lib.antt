@@ -1,4 +1,5 @@
 pub mod Slots
+pub mod Fronted
 pub mod Chunks
 pub mod Tables
 pub mod Props

@@ -1,7 +1,10 @@
 -- Versions in a buffer of bytes.
 use Rattle.std.specs.Prelude.{◌≡◌, ℕ, ◌-◌, ◌^◌, ◌<◌, ◌≤◌, Bool, false, cond, List, [], ◌∷◌, length, take, drop, get_or, true, Some, None}
-use Rattle.std.specs.Ordering.{is_gt}
+use Rattle.std.specs.Ordering.{is_gt, nat_cmp}
+use Rattle.std.specs.declared.cmp.Ordering.{Ordering}
+use Rattle.byteorder.specs.Endian.{big_number}
 use Rattle.mr_base.specs.declared.stop.Direction.{Direction}
+use Rattle.mr_base.specs.declared.stop.Direction.TheVariants.{Forward, Reverse}
 use Rattle.mr_iter.specs.Versions.{Version, as_version, version_cmp}
 use Rattle.mr_memtable.specs.declared.slot.Slot.{Slot}
 
@@ -12,12 +15,22 @@ part bytes from to = take (to - from) (drop from bytes)
 abbrev pub version_at : List ℕ → Slot → Version
 version_at bytes slot = as_version (part bytes slot.start slot.middle) slot.sequence (cond slot.is_put (Some (part bytes slot.middle slot.end)) None)
 
--- its places are within the bytes
+-- the number in the first 8 bytes of a key, where missing bytes are 0
+abbrev pub front_of : List ℕ → ℕ
+front_of key = big_number 8 key
+
+-- two fronts in a direction
+abbrev pub front_cmp : Direction → ℕ → ℕ → Ordering
+front_cmp Forward a b = nat_cmp a b
+front_cmp Reverse a b = nat_cmp b a
+
+-- its places are within the bytes, and it has its key's front
 pub record Fits (bytes : List ℕ) (slot : Slot) : Type 0 where
   pub key : slot.start ≤ slot.middle
   pub value : slot.middle ≤ slot.end
   pub within : slot.end ≤ length bytes
   pub sequence : slot.sequence < 2 ^ 64
+  pub front : slot.front ≡ front_of (part bytes slot.start slot.middle)
 
 -- the versions of these slots
 abbrev pub versions_at : List ℕ → List Slot → List Version
@@ -29,10 +42,26 @@ abbrev pub goes_before : Direction → List ℕ → Version → Slot → Bool
 goes_before direction bytes x slot = is_gt (version_cmp direction x (version_at bytes slot))
 
 abbrev pub no_slot : Slot
-no_slot = record { start = 0; middle = 0; end = 0; sequence = 0; is_put = false }
+no_slot = record { front = 0; start = 0; middle = 0; end = 0; sequence = 0; is_put = false }
 
--- the slots before n stand before the version x, and the one at n doesn't
+-- of slots in order: the one in front of n stands before the version x, so all before it do, and the one at n doesn't
 pub record IsPlace (direction : Direction) (bytes : List ℕ) (x : Version) (slots : List Slot) (n : ℕ) : Type 0 where
   pub within : n ≤ length slots
   pub before : 0 < n → goes_before direction bytes x (get_or slots (n - 1) no_slot) ≡ true
   pub behind : n < length slots → goes_before direction bytes x (get_or slots n no_slot) ≡ false
+
+-- the fronts of these slots
+abbrev pub fronts_of : List Slot → List ℕ
+fronts_of [] = []
+fronts_of (s ∷ ss) = s.front ∷ fronts_of ss
+
+-- the first of these numbers, where there is one
+abbrev pub IsFirst : ℕ → List ℕ → Type 0
+IsFirst front [] = Unit {0}
+IsFirst front (f ∷ fs) = front ≡ f
+
+-- the fronts of a chunk's slots stand side by side, with memory for 256, and the first of them once more
+pub record AreFronts (front : ℕ) (fronts : List ℕ) (capacity : ℕ) (slots : List Slot) : Type 0 where
+  pub same : fronts ≡ fronts_of slots
+  pub first : IsFirst front fronts
+  pub room : 256 ≤ capacity

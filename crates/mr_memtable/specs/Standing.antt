@@ -3,7 +3,7 @@ use Rattle.std.specs.Prelude.{◌≡◌, ℕ, ◌+◌, ◌-◌, ◌<◌, true, L
 use Rattle.std.proofs.Common.{sym, ◌∙◌, ap, subst, arith, suc, zero, add-one}
 use Rattle.mr_base.specs.declared.stop.Direction.{Direction}
 use Rattle.mr_iter.specs.Versions.{Version, version_cmp, IsInOrder, first}
-use Rattle.mr_iter.specs.Cursors.{with_current, IsInPlace, IsWithinBound, GrowsToEnd}
+use Rattle.mr_iter.specs.Cursors.{with_current, SaysSame, IsInPlace, IsWithinBound, GrowsToEnd}
 use Rattle.mr_base.specs.Disk.{Image}
 use Rattle.mr_memtable.specs.Tables.{standing_at}
 
@@ -32,6 +32,10 @@ some_below (v ∷ vs) (suc n) is = omega (arith, some_below vs n is)
 
 pub standing_going : (vs : List Version) (n : ℕ) → is_some (first (drop n vs)) ≡ true → 0 < length vs - n
 standing_going vs n is = omega (arith, some_below vs n is)
+
+-- no file is read
+pub standing_says : (d : Direction) (vs : List Version) (n : ℕ) (i j : Image) → SaysSame (standing_at d vs n) i j
+standing_says d vs n i j = record { versions = refl; rest = refl; distinct = refl; reads_to = λ key place. refl; asked_to = λ key place. refl }
 
 pub standing_in_place : (d : Direction) (vs : List Version) (n : ℕ) (image : Image) → IsInPlace (standing_at d vs n) image
 standing_in_place d vs n image = record { passed = n; rest = left_list vs n }

@@ -3,7 +3,7 @@ use Rattle.std.specs.Prelude.{◌≡◌, ℕ, ◌+◌, ◌*◌, ◌-◌, ◌^◌
 use Rattle.mr_base.specs.declared.stop.Direction.{Direction}
 use Rattle.mr_iter.specs.Versions.{Version, version_cmp, IsInOrder, first, is_strict}
 use Rattle.mr_iter.specs.Cursors.{CursorState}
-use Rattle.mr_memtable.specs.declared.chunks.Chunk.{Chunk}
+use Rattle.mr_memtable.specs.declared.chunk.Chunk.{Chunk}
 use Rattle.mr_memtable.specs.Slots.{versions_at}
 use Rattle.mr_memtable.specs.Chunks.{listed, sizes, sum_of, AllFit, AreFilled, HaveRoom, AreSpare}
 
@@ -47,7 +47,7 @@ pub record IsKept (direction : Direction) (bytes : List ℕ) (chunks spares : Li
   pub spare : AreSpare spares
   pub counted : count ≡ sum_of (sizes chunks)
   pub counts : count + entries_left < 2 ^ 64
-  pub entries : count + entries_left ≤ 256 * (length chunks + length spares)
+  pub entries : count + entries_left ≤ 128 * (length chunks + length spares)
   pub few : length chunks + length spares ≤ most_chunks
   pub room : length bytes + bytes_left ≤ most_bytes
 

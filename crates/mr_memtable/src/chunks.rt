@@ -3,22 +3,14 @@ ghost use Rattle.std.specs.Prelude.{◌≡◌, ◌<◌, ◌≤◌, ◌+◌, ◌*
 ghost use Rattle.std.specs.List.{insert};
 ghost use Rattle.mr_memtable.specs.Chunks.{listed, sizes, sum_of, HaveRoom, AreSpare, AreFilled};
 
+use crate::chunk::{Chunk, HALF};
 use crate::slot::Slot;
-
-/// Half of the slots that a chunk may have.
-pub const HALF: usize = 256;
-
-/// A part of the list, with memory for all that it may get.
-#[derive(Drop)]
-pub struct Chunk {
-    pub slots: Vec<Slot>,
-}
 
 /// Puts a slot at a place of a chunk that has room.
 pub fn insert_at(chunks: &mut Vec<Chunk>, i: usize, place: usize, slot: Slot)
     requires within { i < vec_len chunks.old }
     requires place { place ≤ get_or (sizes chunks.old.items) i 0 }
-    requires room { get_or (sizes chunks.old.items) i 0 < 512 }
+    requires room { get_or (sizes chunks.old.items) i 0 < 256 }
     requires rooms { HaveRoom chunks.old.items }
     ensures list { listed chunks.new.items ≡ insert (listed chunks.old.items) (sum_of (take i (sizes chunks.old.items)) + place) slot }
     ensures sizes { sizes chunks.new.items ≡ set (sizes chunks.old.items) i (get_or (sizes chunks.old.items) i 0 + 1) }
@@ -26,11 +18,7 @@ pub fn insert_at(chunks: &mut Vec<Chunk>, i: usize, place: usize, slot: Slot)
     ensures count { vec_len chunks.new ≡ vec_len chunks.old }
     ensures capacity { vec_capacity chunks.old ≤ vec_capacity chunks.new }
 {
-    let chunk = &mut chunks[i];
-    match chunk.slots.insert(place, slot) {
-        Ok(()) => {}
-        Err(_) => {}
-    }
+    chunks[i].insert(place, slot);
 }
 
 /// Puts a chunk into a list that has room for it.
@@ -48,26 +36,21 @@ fn put_within(chunks: &mut Vec<Chunk>, i: usize, chunk: Chunk)
 }
 
 /// Moves the second half of a full chunk into an empty one behind it.
-pub fn split_chunk(chunks: &mut Vec<Chunk>, i: usize, mut spare: Chunk)
+pub fn split_chunk(chunks: &mut Vec<Chunk>, i: usize, spare: Chunk)
     requires within { i < vec_len chunks.old }
-    requires full { get_or (sizes chunks.old.items) i 0 ≡ 512 }
+    requires full { get_or (sizes chunks.old.items) i 0 ≡ 256 }
     requires empty { spare.slots.items ≡ [] }
-    requires fits { 512 ≤ vec_capacity spare.slots }
+    requires fits { 256 ≤ vec_capacity spare.slots }
     requires room { vec_len chunks.old < vec_capacity chunks.old }
     requires rooms { HaveRoom chunks.old.items }
     ensures list { listed chunks.new.items ≡ listed chunks.old.items }
-    ensures sizes { sizes chunks.new.items ≡ insert (set (sizes chunks.old.items) i 256) (i + 1) 256 }
+    ensures sizes { sizes chunks.new.items ≡ insert (set (sizes chunks.old.items) i 128) (i + 1) 128 }
     ensures rooms { HaveRoom chunks.new.items }
     ensures count { vec_len chunks.new ≡ vec_len chunks.old + 1 }
     ensures capacity { vec_capacity chunks.old ≤ vec_capacity chunks.new }
 {
-    let chunk = &mut chunks[i];
-    match spare.slots.extend_from_slice(&chunk.slots[HALF..]) {
-        Ok(()) => {}
-        Err(_) => return,
-    }
-    chunk.slots.truncate(HALF);
-    put_within(chunks, i + 1, spare);
+    let second = chunks[i].split(spare);
+    put_within(chunks, i + 1, second);
 }
 
 /// Puts a slot into the first chunk of an empty list.
@@ -86,18 +69,15 @@ fn put_first(chunks: &mut Vec<Chunk>, spares: &mut Vec<Chunk>, slot: Slot)
     let Some(mut spare) = spares.pop() else {
         return;
     };
-    match spare.slots.push(slot) {
-        Ok(()) => {}
-        Err(_) => return,
-    }
+    spare.insert(0, slot);
     put_within(chunks, 0, spare);
 }
 
 /// Puts a slot at a place of a full chunk, half of which goes into a spare one.
 fn put_full(chunks: &mut Vec<Chunk>, spares: &mut Vec<Chunk>, i: usize, place: usize, slot: Slot)
     requires within { i < vec_len chunks.old }
-    requires full { get_or (sizes chunks.old.items) i 0 ≡ 512 }
-    requires place { place ≤ 512 }
+    requires full { get_or (sizes chunks.old.items) i 0 ≡ 256 }
+    requires place { place ≤ 256 }
     requires filled { AreFilled (sizes chunks.old.items) }
     requires rooms { HaveRoom chunks.old.items }
     requires some { 0 < vec_len spares.old }
@@ -135,7 +115,7 @@ pub fn put_slot(
     requires filled { AreFilled (sizes chunks.old.items) }
     requires rooms { HaveRoom chunks.old.items }
     requires spare { AreSpare spares.old.items }
-    requires some { sum_of (sizes chunks.old.items) < 256 * (vec_len chunks.old + vec_len spares.old) }
+    requires some { sum_of (sizes chunks.old.items) < 128 * (vec_len chunks.old + vec_len spares.old) }
     requires room { vec_len chunks.old + vec_len spares.old ≤ vec_capacity chunks.old }
     ensures list { listed chunks.new.items ≡ insert (listed chunks.old.items) (sum_of (take i (sizes chunks.old.items)) + place) slot }
     ensures filled { AreFilled (sizes chunks.new.items) }

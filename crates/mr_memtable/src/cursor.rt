@@ -1,10 +1,10 @@
 //! A cursor over a memtable.
-ghost use Rattle.std.specs.Prelude.{◌≡◌, ◌<◌, ◌≤◌, ℕ, Some, IsSome, refl, length, get_or};
+ghost use Rattle.std.specs.Prelude.{◌≡◌, ◌<◌, ◌≤◌, ℕ, Some, IsSome, length, get_or};
 ghost use Rattle.mr_memtable.specs.Slots.{version_at, Fits};
 ghost use Rattle.mr_memtable.specs.Chunks.{sizes};
 ghost use Rattle.mr_memtable.specs.Tables.{IsStanding, flat, standing_at, versions_in};
 ghost use Rattle.mr_memtable.specs.Props.{IsStanding-prop};
-ghost use Rattle.mr_memtable.specs.Standing.{standing_in_order, standing_going, standing_in_place, standing_costs, standing_to_end};
+ghost use Rattle.mr_memtable.specs.Standing.{standing_in_order, standing_says, standing_going, standing_in_place, standing_costs, standing_to_end};
 
 use crate::search::{Place, find};
 use crate::slot::Slot;
@@ -64,6 +64,8 @@ impl<'a> Listed for MemCursor<'a> {
 
     ghost whole = { λ c image. Unit {0} };
 
+    ghost offends = { λ c image file at. ⊥ };
+
     ghost steady = { λ c image. Unit {0} };
 
     fn at_end(&self) -> bool {
@@ -92,9 +94,13 @@ impl<'a> Listed for MemCursor<'a> {
         self.slot().is_put
     }
 
+    ghost not_whole = { λ c image file at offence whole. offence };
+
     ghost in_order = { λ c image whole. standing_in_order c.table.now.direction (versions_in c.table.now.bytes.items c.table.now.chunks.items) (flat (sizes c.table.now.chunks.items) c.chunk c.at) c.table.now.kept.ordered };
 
-    ghost by_files = { λ c i j same whole. (tt, refl, refl) };
+    ghost by_files = { λ c i j same whole. (tt, (λ stands. tt), standing_says c.table.now.direction (versions_in c.table.now.bytes.items c.table.now.chunks.items) (flat (sizes c.table.now.chunks.items) c.chunk c.at) i j) };
+
+    ghost offends_by_files = { λ c i j file at same offence. offence };
 
     ghost in_place = { λ c image whole steady. standing_in_place c.table.now.direction (versions_in c.table.now.bytes.items c.table.now.chunks.items) (flat (sizes c.table.now.chunks.items) c.chunk c.at) image };
 

@@ -1,6 +1,7 @@
 //! Versions in memory, in order: what was written and isn't in a run yet.
 #![tactic(auto)]
 
+mod chunk;
 mod chunks;
 mod cursor;
 mod memtable;

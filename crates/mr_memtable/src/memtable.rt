@@ -1,5 +1,5 @@
 //! A memtable as its callers see it.
-ghost use Rattle.std.specs.Prelude.{◌≡◌, ◌==◌, ◌<◌, ◌≤◌, ◌+◌, [], length, unwrap_or, OnOk, OnErr};
+ghost use Rattle.std.specs.Prelude.{◌≡◌, ◌==◌, ℕ, ◌<◌, ◌≤◌, ◌+◌, [], length, unwrap_or, OnOk, OnErr};
 ghost use Rattle.std.specs.Option.{option_map};
 ghost use Rattle.mr_base.specs.Disk.{Image};
 ghost use Rattle.mr_iter.specs.Versions.{as_version, place_in, version_cmp};
@@ -69,6 +69,7 @@ impl Memtable {
         ensures state { ⟦<MemCursor<'a> as Listed>⟧.cursor result ≡ at_beginning self.now }
         ensures whole { (image : Image) → ⟦<MemCursor<'a> as Listed>⟧.whole result image }
         ensures steady { (image : Image) → ⟦<MemCursor<'a> as Listed>⟧.steady result image }
+        ensures offends { (image : Image) (file at : ℕ) → ⟦<MemCursor<'a> as Listed>⟧.offends result image file at → ⊥ }
     {
         MemCursor::new(&self.table)
     }

@@ -2,7 +2,7 @@
 ghost use Rattle.std.specs.Prelude.{◌≡◌, ◌≤◌, ◌+◌, vec_len, vec_capacity, OnOk};
 ghost use Rattle.mr_memtable.specs.Chunks.{AreSpare};
 
-use crate::chunks::{Chunk, HALF};
+use crate::chunk::Chunk;
 use mr_base::Memory;
 
 /// Makes spare chunks until there are so many chunks in all. Takes memory; no chunk in use changes.
@@ -22,8 +22,8 @@ pub fn add_spares(
     chunks.try_reserve(wanted.saturating_sub(chunks.len()))?;
     let alloc = *chunks.allocator();
     'making: while chunks.len() + spares.len() < wanted {
-        let slots = Vec::with_capacity(alloc, 2 * HALF)?;
-        match spares.push(Chunk { slots }) {
+        let spare = Chunk::new(alloc)?;
+        match spares.push(spare) {
             Ok(()) => {}
             Err(_) => return Err(Memory),
         }

@@ -4,7 +4,8 @@ ghost use Rattle.std.specs.Option.{option_map};
 ghost use Rattle.mr_memtable.specs.Tables.{IsKept};
 ghost use Rattle.mr_memtable.specs.Props.{IsKept-prop};
 
-use crate::chunks::{Chunk, HALF, put_slot};
+use crate::chunk::{Chunk, HALF};
+use crate::chunks::put_slot;
 use crate::search::find;
 use crate::slot::store;
 use crate::spare::add_spares;

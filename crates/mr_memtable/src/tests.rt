@@ -135,6 +135,39 @@ fn walk_all(alloc: Global, direction: Direction, key: &[u8]) -> Result<Vec<u8>, 
     walk(alloc, &mut disk, &mut merge)
 }
 
+/// A key, the same with a zero byte behind it, and the next key.
+fn neighbours(alloc: Global, direction: Direction) -> Result<Memtable, Memory> {
+    let mut table = Memtable::new(alloc, direction);
+    add(&mut table, b"\x61", 1, Some(b""))?;
+    add(&mut table, b"\x61\x00", 2, Some(b""))?;
+    add(&mut table, b"\x62", 3, Some(b""))?;
+    Ok(table)
+}
+
+fn walk_neighbours(alloc: Global, direction: Direction, key: &[u8]) -> Result<Vec<u8>, Stop> {
+    let table = neighbours(alloc, direction)?;
+    let mut disk = Unused { faults: 0 };
+    let mut cursor = table.cursor();
+    cursor.seek(&mut disk, key)?;
+    walk(alloc, &mut disk, &mut cursor)
+}
+
+/// A key that is put at number 1 and deleted at number 2.
+fn put_and_deleted(alloc: Global) -> Result<Memtable, Memory> {
+    let mut table = Memtable::new(alloc, Direction::Forward);
+    add(&mut table, b"\x61", 1, Some(b"\x01"))?;
+    add(&mut table, b"\x61", 2, None)?;
+    Ok(table)
+}
+
+fn walk_deleted(alloc: Global, number: u64) -> Result<Vec<u8>, Stop> {
+    let table = put_and_deleted(alloc)?;
+    let mut disk = Unused { faults: 0 };
+    let mut cursor = AtSnapshot::new(alloc, table.cursor(), number);
+    cursor.seek(&mut disk, b"")?;
+    walk(alloc, &mut disk, &mut cursor)
+}
+
 /// How many versions are left, or None where their keys don't rise.
 fn count_in_order<D: Disk, C: Cursor<D>>(
     alloc: Global,
@@ -203,6 +236,37 @@ fn a_deleted_key_is_no_put(rt: HostRuntime) -> Result<(), Fail> {
         (b"abAca", 9, b"a=a b=b c=c "),
     ] {
         let seen = walk_at(alloc, letters, number);
+        assert!(rt; seen.is_ok());
+        let Ok(seen) = seen else { return Ok(()) };
+        assert_eq!(rt; seen.as_slice(), expected);
+    }
+    Ok(())
+}
+
+#[test]
+fn a_longer_key_is_behind_its_front(rt: HostRuntime) -> Result<(), Fail> {
+    let alloc = rt.alloc();
+    for (direction, from, expected) in [
+        (
+            Direction::Forward,
+            b"".as_slice(),
+            b"\x61= \x61\x00= \x62= ".as_slice(),
+        ),
+        (Direction::Reverse, b"\xff", b"\x62= \x61\x00= \x61= "),
+    ] {
+        let seen = walk_neighbours(alloc, direction, from);
+        assert!(rt; seen.is_ok());
+        let Ok(seen) = seen else { return Ok(()) };
+        assert_eq!(rt; seen.as_slice(), expected);
+    }
+    Ok(())
+}
+
+#[test]
+fn a_put_is_seen_until_it_is_deleted(rt: HostRuntime) -> Result<(), Fail> {
+    let alloc = rt.alloc();
+    for (number, expected) in [(0u64, b"".as_slice()), (1, b"\x61=\x01 "), (2, b"")] {
+        let seen = walk_deleted(alloc, number);
         assert!(rt; seen.is_ok());
         let Ok(seen) = seen else { return Ok(()) };
         assert_eq!(rt; seen.as_slice(), expected);

@@ -15,7 +15,7 @@ pub returns-then-place-le-HALF-clause-filled : goal.returns-then-place-le-HALF-c
 returns-then-place-le-HALF-clause-filled c =
     let ns = sizes c.args.chunks.now.items in
     let lt : c.args.i < length (sizes c.args.chunks.now.items) = omega (arith, c.requires.within, c.args.chunks.now.ok.0, length-sizes c.args.chunks.now.items) in
-    let e : sizes c.insert_at.new.chunks.items ≡ set (halved ns c.args.i) c.args.i 257 =
+    let e : sizes c.insert_at.new.chunks.items ≡ set (halved ns c.args.i) c.args.i 129 =
     c.insert_at.ensures.sizes ∙ ap (λ (ms : List ℕ). set ms c.args.i (get_or ms c.args.i 0 + 1)) c.split_chunk.ensures.sizes ∙ ap (λ (n : ℕ). set (halved ns c.args.i) c.args.i (n + 1)) (first_half ns c.args.i lt) in
     subst AreFilled (sym e) (filled-split ns c.args.i c.args.i c.requires.filled lt c.requires.full)
 
@@ -30,7 +30,7 @@ pub returns-else-place-le-HALF-clause-filled : goal.returns-else-place-le-HALF-c
 returns-else-place-le-HALF-clause-filled c =
     let ns = sizes c.args.chunks.now.items in
     let lt : c.args.i < length (sizes c.args.chunks.now.items) = omega (arith, c.requires.within, c.args.chunks.now.ok.0, length-sizes c.args.chunks.now.items) in
-    let e : sizes c.insert_at-else-place-le-HALF.new.chunks.items ≡ set (halved ns c.args.i) (c.args.i + 1) 257 =
+    let e : sizes c.insert_at-else-place-le-HALF.new.chunks.items ≡ set (halved ns c.args.i) (c.args.i + 1) 129 =
     c.insert_at-else-place-le-HALF.ensures.sizes ∙ ap (λ (ms : List ℕ). set ms (c.args.i + 1) (get_or ms (c.args.i + 1) 0 + 1)) c.split_chunk.ensures.sizes ∙ ap (λ (n : ℕ). set (halved ns c.args.i) (c.args.i + 1) (n + 1)) (second_half ns c.args.i lt) in
     subst AreFilled (sym e) (filled-split ns c.args.i (c.args.i + 1) c.requires.filled lt c.requires.full)
 
@@ -38,6 +38,6 @@ pub returns-else-place-le-HALF-clause-list : goal.returns-else-place-le-HALF-cla
 returns-else-place-le-HALF-clause-list c =
     let ns = sizes c.args.chunks.now.items in
     let lt : c.args.i < length (sizes c.args.chunks.now.items) = omega (arith, c.requires.within, c.args.chunks.now.ok.0, length-sizes c.args.chunks.now.items) in
-    let at : sum_of (take (c.args.i + 1) (sizes c.split_chunk.new.chunks.items)) ≡ sum_of (take c.args.i ns) + 256 = ap (λ (ms : List ℕ). sum_of (take (c.args.i + 1) ms)) c.split_chunk.ensures.sizes ∙ between_halves ns c.args.i lt in
-    let there : sum_of (take (c.args.i + 1) (sizes c.split_chunk.new.chunks.items)) + (c.args.place - 256) ≡ sum_of (take c.args.i ns) + c.args.place = omega (arith, at, c.if-place-le-HALF.false) in
+    let at : sum_of (take (c.args.i + 1) (sizes c.split_chunk.new.chunks.items)) ≡ sum_of (take c.args.i ns) + 128 = ap (λ (ms : List ℕ). sum_of (take (c.args.i + 1) ms)) c.split_chunk.ensures.sizes ∙ between_halves ns c.args.i lt in
+    let there : sum_of (take (c.args.i + 1) (sizes c.split_chunk.new.chunks.items)) + (c.args.place - 128) ≡ sum_of (take c.args.i ns) + c.args.place = omega (arith, at, c.if-place-le-HALF.false) in
     c.insert_at-else-place-le-HALF.ensures.list ∙ ap (λ (n : ℕ). insert (listed c.split_chunk.new.chunks.items) n c.args.slot) there ∙ ap (λ ss. insert ss (sum_of (take c.args.i ns) + c.args.place) c.args.slot) c.split_chunk.ensures.list

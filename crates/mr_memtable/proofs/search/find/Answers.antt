@@ -1,8 +1,6 @@
-use Rattle.std.proofs.Common.{◌≡◌, ◌<◌, ◌≤◌, ◌+◌, ◌-◌, ℕ, List, true, false, None, length, get_or, sym, ◌∙◌, ap, subst, arith}
+use Rattle.std.proofs.Common.{◌≡◌, ◌<◌, ◌+◌, ◌-◌, ℕ, false, None, length, sym, subst, arith}
 use Rattle.mr_iter.specs.Versions.{as_version}
-use Rattle.mr_memtable.specs.declared.chunks.Chunk.{Chunk}
-use Rattle.mr_memtable.specs.declared.slot.Slot.{Slot}
-use Rattle.mr_memtable.specs.Slots.{goes_before, no_slot}
+use Rattle.mr_memtable.specs.Slots.{goes_before}
 use Rattle.mr_memtable.specs.Chunks.{first_slot}
 use Rattle.mr_memtable.proofs.Places.{place_first, place_at}
 use Rattle.mr_memtable.proofs.search.find.Goals as goal
@@ -17,11 +15,8 @@ returns-clause-place c =
     let i = c.find_chunk-begun.result - 1 in
     let lt : c.find_chunk-begun.result - 1 < length c.args.chunks.now = omega (arith, c.find_chunk-begun.ensures.within, c.if-begun-eq0.false) in
     let up : (c.find_chunk-begun.result - 1) + 1 ≡ c.find_chunk-begun.result = omega (arith, c.if-begun-eq0.false) in
-    let e : c.deref.result.now ≡ c.index-chunks-chunk.result.slots.items = c.deref.ensures.value ∙ ap (λ (d : Chunk). d.slots.items) (sym c.index-chunks-chunk.is) in
     let x = as_version c.args.key.now c.args.sequence None in
     place_at c.args.direction c.args.bytes.now x c.args.chunks.now i c.find_in_chunk-at.result c.index-chunks-chunk.result c.requires.some lt c.index-chunks-chunk.is
     (c.find_chunk-begun.ensures.before (omega (arith, c.if-begun-eq0.false)))
     (λ more. subst (λ (n : ℕ). n < length c.args.chunks.now → goes_before c.args.direction c.args.bytes.now x (first_slot c.args.chunks.now n) ≡ false) (sym up) c.find_chunk-begun.ensures.behind more)
-    (subst (λ (ss : List Slot). c.find_in_chunk-at.result ≤ length ss) e c.find_in_chunk-at.ensures.within)
-    (subst (λ (ss : List Slot). 0 < c.find_in_chunk-at.result → goes_before c.args.direction c.args.bytes.now x (get_or ss (c.find_in_chunk-at.result - 1) no_slot) ≡ true) e c.find_in_chunk-at.ensures.before)
-    (subst (λ (ss : List Slot). c.find_in_chunk-at.result < length ss → goes_before c.args.direction c.args.bytes.now x (get_or ss c.find_in_chunk-at.result no_slot) ≡ false) e c.find_in_chunk-at.ensures.behind)
+    c.find_in_chunk-at.ensures.within c.find_in_chunk-at.ensures.before c.find_in_chunk-at.ensures.behind

@@ -1,6 +1,6 @@
 use Rattle.std.proofs.Common.{◌+◌, ◌-◌, ◌^◌, ℕ, List, None, ◌∙◌, ap, subst, drop, take}
 use Rattle.mr_iter.specs.Versions.{as_version}
-use Rattle.mr_memtable.specs.declared.chunks.Chunk.{Chunk}
+use Rattle.mr_memtable.specs.declared.chunk.Chunk.{Chunk}
 use Rattle.mr_memtable.specs.Slots.{IsPlace}
 use Rattle.mr_memtable.specs.Chunks.{listed, sizes, sum_of}
 use Rattle.mr_memtable.specs.Tables.{flat, versions_in}

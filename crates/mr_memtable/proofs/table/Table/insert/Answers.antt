@@ -1,7 +1,7 @@
 use Rattle.std.proofs.Common.{◌≡◌, ◌+◌, ◌++◌, ℕ, List, [], None, length, take, unwrap_or, subst, ap, ◌∙◌, arith, length-append}
 use Rattle.std.specs.Option.{option_map}
 use Rattle.mr_iter.specs.Versions.{as_version}
-use Rattle.mr_memtable.specs.declared.chunks.Chunk.{Chunk}
+use Rattle.mr_memtable.specs.declared.chunk.Chunk.{Chunk}
 use Rattle.mr_memtable.specs.Slots.{IsPlace}
 use Rattle.mr_memtable.specs.Chunks.{listed, sizes, sum_of}
 use Rattle.mr_memtable.proofs.Inserting.{inserted, still_ordered, still_fit, one_more}
