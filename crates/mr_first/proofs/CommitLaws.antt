@@ -1,225 +1,180 @@
--- The bytes of a commit read back as that commit, and no other bytes are read.
-use Rattle.std.proofs.Common.{◌≡◌, ℕ, ℤ, zero, suc, ◌^◌, ◌/◌, ◌<◌, ◌≤◌, List, [], ◌∷◌, ◌++◌, length, Option, Some, None, refl, ap, sym, ◌∙◌, arith, Bool, true, cond, ◌&&◌, ◌==◌, inl, inr, nat_lt, nat_le, w64, append-nil, subst, if◌then◌else◌}
-use Rattle.std.specs.Int.{cast_unsigned, byte_at}
+-- The bytes of a formed commit read back as that commit, and bytes that are read are the commit's.
+use Rattle.std.proofs.Common.{◌≡◌, ℕ, ℤ, pos, negsuc, zero, suc, ◌^◌, ◌/◌, ◌<◌, ◌≤◌, List, [], ◌∷◌, ◌++◌, length, Some, None, Ok, Err, Result, refl, ap, sym, ◌∙◌, arith, Bool, true, false, cond, ◌&&◌, nat_lt, nat_le, subst}
+use Rattle.std.specs.Int.{cast_unsigned, byte_at, w64}
 use Rattle.std.specs.List.{list_all}
-use Rattle.std.proofs.lemmas.Bool.{ltb-true, lt-ltb, leb-true}
-use Rattle.std.proofs.lemmas.Bool.Decides.{eqb_tells}
+use Rattle.std.proofs.lemmas.Bool.{and_parts, and_from, ltb-true, lt-ltb, leb-true}
 use Rattle.std.proofs.lemmas.List.Folds.{list_all-append}
 use Rattle.std.proofs.Math.Nat.{mod-lt}
 use Rattle.byteorder.specs.Endian.{big_bytes}
-use Rattle.mr_first.specs.Bytes.{is_byte, is_valid_name, is_name_byte, behind}
-use Rattle.mr_first.specs.Grammar.{◌>>=◌, row_of}
-use Rattle.mr_first.specs.Lawful.{is_bigint, is_valid_row}
-use Rattle.mr_first.specs.CommitForm.{name_bytes, value_bytes, row_bytes, key_column, value_column, keys_and_comments, change_bytes, commit_bytes, is_formed_change, is_formed, number_in, name_in, value_in, end_in, table_in, insert_in, change_in, commit_in, read_commit}
-use Rattle.mr_first.specs.declared.rows.Row.{Row}
-use Rattle.mr_first.specs.declared.commits.Commit.{Commit}
-use Rattle.mr_first.specs.declared.commits.Change.{Change}
-use Rattle.mr_first.specs.declared.commits.Change.TheVariants.{TableCreated, RowInserted}
-use Rattle.mr_first.proofs.ByteNumbers.{tells, and_true, some_same, no_none, number_back}
-use Rattle.mr_first.proofs.CommitFields.{name_back, bound, value_back, behind_then, number_then, name_then, value_then}
+use Rattle.mr_types.specs.declared.row.Row.{Row}
+use Rattle.mr_types.specs.declared.row.Change.TheVariants as change
+use Rattle.mr_types.specs.declared.row.Schema.TheVariants as schema
+use Rattle.mr_types.specs.declared.row.CommitBody.{CommitBody}
+use Rattle.mr_types.specs.declared.row.CommitBody.TheVariants as body
+use Rattle.mr_types.specs.declared.row.Commit.{Commit}
+use Rattle.mr_types.specs.declared.definition.TableDef.{TableDef}
+use Rattle.mr_spec.specs.RowForm.{number_bytes, row_bytes}
+use Rattle.mr_fields.specs.Fields.{name_bytes, placed, whole_in, is_name_byte as is_field_byte}
+use Rattle.mr_fields.specs.Fitting.{NameFits, NumberFits, RowFits}
+use Rattle.mr_fields.proofs.FieldLaws.{whole_only}
+use Rattle.mr_schema.specs.DefinitionFitting.{DefinitionFits}
+use Rattle.mr_schema.specs.DefinitionForm.{column_bytes, definition_bytes}
+use Rattle.mr_binlog.specs.CommitForm.{body_bytes, commit_bytes, commit_in, reads_commit}
+use Rattle.mr_binlog.specs.CommitFitting.{BodyFits, CommitFits}
+use Rattle.mr_binlog.proofs.CommitLaws.{commit_only, commit_written}
+use Rattle.mr_first.specs.Bytes.{is_byte, is_valid_name, is_name_byte}
+use Rattle.mr_first.specs.Formed.{is_formed, is_formed_body}
+use Rattle.mr_first.specs.LogCommits.{given, read_commit}
+use Rattle.mr_first.specs.Plain.{is_bigint, is_valid_row}
+use Rattle.mr_first.specs.Served.{row_of, key_of, value_of, key_column, value_column, table_def}
+use Rattle.mr_first.proofs.PlainForms.{row_is, table_is}
 
--- ---- changes
+-- ---- what is read
 
-end_only : (s rest : List ℕ) → end_in s ≡ Some rest → s ≡ []
-end_only [] rest e = refl
-end_only (b ∷ s) rest e = absurd (no_none rest e)
+given_is : (bytes : List ℕ) (r : Result Commit ℕ) (c : Commit) → given (placed bytes r) ≡ Some c → r ≡ Ok c
+given_is bytes (Ok x) c e = let same : x ≡ c = cc in ap (λ (y : Commit). Ok y) same
+given_is bytes (Err place) c e = cc
 
-end_then : {B R : Type 0} (s : List ℕ) (f : List ℕ → Option B) (y : B) → (end_in s >>= f) ≡ Some y → ((rest : List ℕ) → s ≡ [] → f rest ≡ Some y → R) → R
-end_then s f y r go = let b = bound (end_in s) f y r in go b.value (end_only s b.value b.found) b.goes_on
+read_where : (bytes : List ℕ) (c : Commit) (t : Bool) → list_all is_byte bytes ≡ t → cond t (given (reads_commit bytes)) None ≡ Some c → bytes ≡ commit_bytes c
+read_where bytes c true all e = whole_only commit_bytes commit_in bytes c (commit_only bytes all) (given_is bytes (whole_in commit_in bytes) c e)
+read_where bytes c false all e = cc
 
--- the steps of a table's definition
-abbrev table_end : List ℕ → List ℕ → List ℕ → List ℕ → Option Change
-table_end table key value d = Some (TableCreated table key value)
+-- Bytes that are read as a commit are that commit's.
+pub read_only : (bytes : List ℕ) (c : Commit) → read_commit bytes ≡ Some c → bytes ≡ commit_bytes c
+read_only bytes c e = read_where bytes c (list_all is_byte bytes) refl e
 
-abbrev table_keys : List ℕ → List ℕ → List ℕ → List ℕ → Option Change
-table_keys table key value c = end_in c >>= table_end table key value
+-- ---- what fits
 
-abbrev table_value : List ℕ → List ℕ → List ℕ × List ℕ → Option Change
-table_value table key value = behind (value_column ++ keys_and_comments) value.1 >>= table_keys table key value.0
+name_short : (name : List ℕ) → is_valid_name name ≡ true → length name ≤ 64
+name_short name e = leb-true (length name) 64 (and_parts (nat_le (length name) 64) (list_all is_name_byte name) ((and_parts (nat_le 1 (length name)) (nat_le (length name) 64 && list_all is_name_byte name) e).1)).0
 
-abbrev table_column : List ℕ → List ℕ → List ℕ → Option Change
-table_column table key b = name_in b >>= table_value table key
+name_some : (name : List ℕ) → is_valid_name name ≡ true → 1 ≤ length name
+name_some name e = leb-true 1 (length name) (and_parts (nat_le 1 (length name)) (nat_le (length name) 64 && list_all is_name_byte name) e).0
 
-abbrev table_key : List ℕ → List ℕ × List ℕ → Option Change
-table_key table key = behind key_column key.1 >>= table_column table key.0
+name_each : (name : List ℕ) → is_valid_name name ≡ true → list_all is_name_byte name ≡ true
+name_each name e = (and_parts (nat_le (length name) 64) (list_all is_name_byte name) ((and_parts (nat_le 1 (length name)) (nat_le (length name) 64 && list_all is_name_byte name) e).1)).1
 
-abbrev table_count : List ℕ → List ℕ → Option Change
-table_count table a = name_in a >>= table_key table
+byte_low : (b : ℕ) → is_name_byte b ≡ true → (1 ≤ b) × (b ≤ 127)
+byte_low b e = let p = and_parts (nat_le 1 b) (nat_le b 127) e in (leb-true 1 b p.0, leb-true b 127 p.1)
 
-abbrev table_name : List ℕ × List ℕ → Option Change
-table_name table = behind (2 ∷ []) table.1 >>= table_count table.0
+each_field_byte : (name : List ℕ) → list_all is_name_byte name ≡ true → list_all is_field_byte name ≡ true
+each_field_byte [] e = refl
+each_field_byte (b ∷ name) e =
+    let p = and_parts (is_name_byte b) (list_all is_name_byte name) e in
+    let low = byte_low b p.0 in
+    and_from _ _ (and_from _ _ (lt-ltb 0 b (omega (arith, low.0))) (lt-ltb b 128 (omega (arith, low.1)))) (each_field_byte name p.1)
 
--- the bytes are those of the change, which is formed
-pub record IsFormOf (bytes : List ℕ) (change : Change) : Type 0 where
-  pub bytes_are : bytes ≡ change_bytes change
-  pub formed : is_formed_change change ≡ true
+name_fits : (name : List ℕ) → is_valid_name name ≡ true → NameFits name
+name_fits name e = record {
+  short = omega (arith, name_short name e);
+  is_name = and_from _ _ (lt-ltb 0 (length name) (omega (arith, name_some name e))) (each_field_byte name (name_each name e));
+}
 
-pub both_true : (a b : Bool) → a ≡ true → b ≡ true → (a && b) ≡ true
-both_true a b x y = ap (λ t. t && b) x ∙ y
+number_fits : (z : ℤ) → is_bigint z ≡ true → NumberFits z
+number_fits (pos n) e = omega (arith, ltb-true n (2 ^ 63) e)
+number_fits (negsuc n) e = ltb-true n (2 ^ 63) e
 
-form_is : (bytes : List ℕ) (x y : Change) → Some x ≡ Some y → IsFormOf bytes x → IsFormOf bytes y
-form_is bytes x y e f = subst (λ (c : Change). IsFormOf bytes c) (some_same x y e) f
+row_fits : (k v : ℤ) → is_bigint k ≡ true → is_bigint v ≡ true → RowFits (row_of k v)
+row_fits k v key value = record { hidden = tt; stamp = tt; count = omega arith; fields = (number_fits k key, (number_fits v value, tt)) }
 
-table_only : (s : List ℕ) (change : Change) → list_all is_byte s ≡ true → table_in s ≡ Some change → IsFormOf (1 ∷ s) change
-table_only s change e r =
-    name_then s table_name change e r (λ table s1 b1 w1 v1 r1.
-    behind_then (2 ∷ []) s1 (table_count table) change b1 r1 (λ s2 b2 w2 r2.
-    name_then s2 (table_key table) change b2 r2 (λ key s3 b3 w3 v3 r3.
-    behind_then key_column s3 (table_column table key) change b3 r3 (λ s4 b4 w4 r4.
-    name_then s4 (table_value table key) change b4 r4 (λ value s5 b5 w5 v5 r5.
-    behind_then (value_column ++ keys_and_comments) s5 (table_keys table key value) change b5 r5 (λ s6 b6 w6 r6.
-    end_then s6 (table_end table key value) change r6 (λ s7 w7 r7.
-    form_is (1 ∷ s) (TableCreated table key value) change r7 (record {
-      bytes_are = ap (λ x. 1 ∷ x) (w1 ∙ ap (λ x. name_bytes table ++ x) (w2 ∙ ap (λ x. 2 ∷ x) (w3 ∙ ap (λ x. name_bytes key ++ x) (w4 ∙ ap (λ x. key_column ++ x) (w5 ∙ ap (λ x. name_bytes value ++ x) (w6 ∙ ap (λ x. (value_column ++ keys_and_comments) ++ x) w7))))));
-      formed = both_true (is_valid_name table) (is_valid_name key && is_valid_name value) v1 (both_true (is_valid_name key) (is_valid_name value) v3 v5);
-    }))))))))
+table_fits : (table key value : List ℕ) → is_valid_name table ≡ true → is_valid_name key ≡ true → is_valid_name value ≡ true → DefinitionFits (table_def table key value)
+table_fits table key value t k v = record {
+  name = name_fits table t;
+  column_count = omega arith;
+  columns = (record { name = name_fits key k; kind = tt; default = tt }, (record { name = name_fits value v; kind = tt; default = tt }, tt));
+  primary = record {
+    no_name = refl;
+    is_unique = refl;
+    columns = record { count = omega arith; each = (omega arith, tt) };
+    comment = record { short = omega arith; is_text = refl };
+  };
+  key_count = omega arith;
+  secondary = tt;
+  comment = record { short = omega arith; is_text = refl };
+  ttl = refl;
+}
 
--- the steps of an insert
-abbrev insert_end : List ℕ → ℤ → ℤ → List ℕ → Option Change
-insert_end table key value c = Some (RowInserted table (row_of key value))
+body_fits : (b : CommitBody) → is_formed_body b ≡ true → BodyFits b
+body_fits (body.Schema (schema.CreateTable def)) e = let d = table_is def e in subst (λ (x : TableDef). DefinitionFits x) (sym d.is) (table_fits def.name d.key d.value d.name_valid d.key_valid d.value_valid)
+body_fits (body.Schema (schema.DropTable name)) e = cc
+body_fits (body.Schema (schema.CreateIndex name key)) e = cc
+body_fits (body.Schema (schema.DropIndex name key)) e = cc
+body_fits (body.Rows []) e = cc
+body_fits (body.Rows (change.Insert table row ∷ [])) e =
+    let p = and_parts (is_valid_name table) (is_valid_row row) e in
+    let r = row_is row p.1 in
+    (omega arith, omega arith, ((name_fits table p.0, subst (λ (x : Row). RowFits x) (sym r.is) (row_fits (key_of row) (value_of row) r.key r.value)), tt))
+body_fits (body.Rows (change.Update table old new ∷ [])) e = cc
+body_fits (body.Rows (change.Delete table old ∷ [])) e = cc
+body_fits (body.Rows (c ∷ d ∷ cs)) e = cc
 
-abbrev insert_value : List ℕ → ℤ → ℤ × List ℕ → Option Change
-insert_value table key value = end_in value.1 >>= insert_end table key value.0
+-- a formed commit has a form as bytes
+pub commit_fits : (c : Commit) → is_formed c ≡ true → CommitFits c
+commit_fits c e =
+    let p = and_parts (nat_lt c.moment (2 ^ 64)) (is_formed_body c.body) e in
+    record { moment = ltb-true c.moment (2 ^ 64) p.0; body = body_fits c.body p.1 }
 
-abbrev insert_key : List ℕ → ℤ × List ℕ → Option Change
-insert_key table key = value_in key.1 >>= insert_value table key.0
-
-abbrev insert_row : List ℕ → List ℕ → Option Change
-insert_row table b = value_in b >>= insert_key table
-
-abbrev insert_name : List ℕ × List ℕ → Option Change
-insert_name table = behind (0 ∷ 2 ∷ []) table.1 >>= insert_row table.0
-
-abbrev insert_head : List ℕ → Option Change
-insert_head a = name_in a >>= insert_name
-
-insert_only : (s : List ℕ) (change : Change) → list_all is_byte s ≡ true → insert_in s ≡ Some change → IsFormOf (0 ∷ s) change
-insert_only s change e r =
-    behind_then (0 ∷ 0 ∷ 0 ∷ 1 ∷ 1 ∷ []) s insert_head change e r (λ s1 b1 w1 r1.
-    name_then s1 insert_name change b1 r1 (λ table s2 b2 w2 v2 r2.
-    behind_then (0 ∷ 2 ∷ []) s2 (insert_row table) change b2 r2 (λ s3 b3 w3 r3.
-    value_then s3 (insert_key table) change b3 r3 (λ key s4 b4 w4 v4 r4.
-    value_then s4 (insert_value table key) change b4 r4 (λ value s5 b5 w5 v5 r5.
-    end_then s5 (insert_end table key value) change r5 (λ s6 w6 r6.
-    form_is (0 ∷ s) (RowInserted table (row_of key value)) change r6 (record {
-      bytes_are = ap (λ x. 0 ∷ x) (w1 ∙ ap (λ x. (0 ∷ 0 ∷ 0 ∷ 1 ∷ 1 ∷ []) ++ x) (w2 ∙ ap (λ x. name_bytes table ++ x) (w3 ∙ ap (λ x. 0 ∷ 2 ∷ x) (w4 ∙ ap (λ x. value_bytes key ++ x) (w5 ∙ ap (λ x. value_bytes value ++ x) w6 ∙ append-nil (value_bytes value))))));
-      formed = both_true (is_valid_name table) (is_bigint key && is_bigint value) v2 (both_true (is_bigint key) (is_bigint value) v4 v5);
-    })))))))
-
--- the step behind the kind
-kind_only : (kind : ℕ) (s : List ℕ) (change : Change) → list_all is_byte s ≡ true → (if kind == 1 then table_in s else (if kind == 0 then insert_in s else None)) ≡ Some change → IsFormOf (kind ∷ s) change
-kind_only kind s change e r = elim (eqb_tells kind 1) [
-  | inl (t, same) ↦ subst (λ (k : ℕ). IsFormOf (k ∷ s) change) (sym same) (table_only s change e (rw t at r))
-  | inr (t, _) ↦ elim (eqb_tells kind 0) [
-    | inl (u, same) ↦ subst (λ (k : ℕ). IsFormOf (k ∷ s) change) (sym same) (insert_only s change e (rw (t, u) at r))
-    | inr (u, _) ↦ absurd (no_none change (rw (t, u) at r))
-  ]
-]
-
-change_only : (s : List ℕ) (change : Change) → list_all is_byte s ≡ true → change_in s ≡ Some change → IsFormOf s change
-change_only [] change e r = absurd (no_none change r)
-change_only (kind ∷ s) change e r = kind_only kind s change ((and_true (is_byte kind) (list_all is_byte s) e).1) r
-
-change_then : {B R : Type 0} (s : List ℕ) (f : Change → Option B) (y : B) → list_all is_byte s ≡ true → (change_in s >>= f) ≡ Some y → ((change : Change) → IsFormOf s change → f change ≡ Some y → R) → R
-change_then s f y e r go = let b = bound (change_in s) f y r in go b.value (change_only s b.value e b.found) b.goes_on
-
-abbrev commit_end : ℕ → Change → Option Commit
-commit_end moment change = Some (record { moment = moment; change = change })
-
-abbrev commit_moment : ℕ × List ℕ → Option Commit
-commit_moment moment = change_in moment.1 >>= commit_end moment.0
-
-pub record IsBodyOf (bytes : List ℕ) (commit : Commit) : Type 0 where
-  pub bytes_are : bytes ≡ commit_bytes commit
-  pub formed : is_formed commit ≡ true
-
-commit_only : (s : List ℕ) (c : Commit) → list_all is_byte s ≡ true → commit_in s ≡ Some c → IsBodyOf s c
-commit_only s c e r =
-    number_then 8 s commit_moment c e r (λ moment s1 b1 w1 low r1.
-    change_then s1 (commit_end moment) c b1 r1 (λ change form r2.
-    let made : Commit = record { moment = moment; change = change } in
-    subst (λ (x : Commit). IsBodyOf s x) (some_same made c r2) (record {
-      bytes_are = w1 ∙ ap (λ x. big_bytes 8 moment ++ x) form.bytes_are;
-      formed = both_true (nat_lt moment (2 ^ 64)) (is_formed_change change) (lt-ltb moment (2 ^ 64) low) form.formed;
-    })))
-
--- Bytes that are read as a commit are that commit's, which is formed.
-pub read_only : (bytes : List ℕ) (c : Commit) → read_commit bytes ≡ Some c → IsBodyOf bytes c
-read_only bytes c r = elim (tells (list_all is_byte bytes)) [
-  | inl y ↦ commit_only bytes c y (sym (ap (λ t. cond t (commit_in bytes) None) y) ∙ r)
-  | inr n ↦ absurd (no_none c (sym (ap (λ t. cond t (commit_in bytes) None) n) ∙ r))
-]
-
--- ---- the other way
-
-all_name_bytes : (name : List ℕ) → list_all is_name_byte name ≡ true → list_all is_byte name ≡ true
-all_name_bytes [] e = refl
-all_name_bytes (b ∷ name) e =
-    let parts = and_true (is_name_byte b) (list_all is_name_byte name) e in
-    let low : b ≤ 127 = leb-true b 127 ((and_true (nat_le 1 b) (nat_le b 127) parts.0).1) in
-    both_true (is_byte b) (list_all is_byte name) (lt-ltb b 256 (omega (arith, low))) (all_name_bytes name parts.1)
+-- ---- all of it is bytes
 
 digits_bytes : (n x : ℕ) → list_all is_byte (big_bytes n x) ≡ true
 digits_bytes zero x = refl
-digits_bytes (suc n) x = both_true (is_byte (byte_at n x)) (list_all is_byte (big_bytes n x)) (lt-ltb (byte_at n x) 256 (byte_low n x)) (digits_bytes n x)
+digits_bytes (suc n) x = and_from (is_byte (byte_at n x)) (list_all is_byte (big_bytes n x)) (lt-ltb (byte_at n x) 256 (digit_low n x)) (digits_bytes n x)
   where
-    byte_low : (n x : ℕ) → byte_at n x < 256
-    byte_low zero x = mod-lt x (omega arith)
-    byte_low (suc n) x = mod-lt (x / 256 ^ suc n) (omega arith)
+    digit_low : (n x : ℕ) → byte_at n x < 256
+    digit_low zero x = mod-lt x (omega arith)
+    digit_low (suc n) x = mod-lt (x / 256 ^ suc n) (omega arith)
 
 on_bytes : (a b : List ℕ) → list_all is_byte a ≡ true → list_all is_byte b ≡ true → list_all is_byte (a ++ b) ≡ true
-on_bytes a b x y = list_all-append is_byte a b ∙ both_true (list_all is_byte a) (list_all is_byte b) x y
+on_bytes a b x y = list_all-append is_byte a b ∙ and_from (list_all is_byte a) (list_all is_byte b) x y
+
+each_byte : (name : List ℕ) → list_all is_name_byte name ≡ true → list_all is_byte name ≡ true
+each_byte [] e = refl
+each_byte (b ∷ name) e =
+    let p = and_parts (is_name_byte b) (list_all is_name_byte name) e in
+    and_from (is_byte b) (list_all is_byte name) (lt-ltb b 256 (omega (arith, (byte_low b p.0).1))) (each_byte name p.1)
 
 name_all : (name : List ℕ) → is_valid_name name ≡ true → list_all is_byte (name_bytes name) ≡ true
-name_all name e = on_bytes (big_bytes 1 (length name)) name (digits_bytes 1 (length name))
-    (all_name_bytes name ((and_true (nat_le (length name) 64) (list_all is_name_byte name) ((and_true (nat_le 1 (length name)) (nat_le (length name) 64 && list_all is_name_byte name) e).1)).1))
+name_all name e = and_from (is_byte (length name)) (list_all is_byte name) (lt-ltb (length name) 256 (omega (arith, name_short name e))) (each_byte name (name_each name e))
 
-value_all : (z : ℤ) → list_all is_byte (value_bytes z) ≡ true
-value_all z = digits_bytes 8 (cast_unsigned w64 z)
+marked_all : (t : Bool) (n : ℕ) → list_all is_byte (cond t 1 2 ∷ big_bytes 8 n) ≡ true
+marked_all true n = digits_bytes 8 n
+marked_all false n = digits_bytes 8 n
 
-change_all : (change : Change) → is_formed_change change ≡ true → list_all is_byte (change_bytes change) ≡ true
-change_all (TableCreated table key value) e =
-    let one = and_true (is_valid_name table) (is_valid_name key && is_valid_name value) e in
-    let two = and_true (is_valid_name key) (is_valid_name value) one.1 in
-    let last : List ℕ = name_bytes value ++ (value_column ++ keys_and_comments) in
-    on_bytes (1 ∷ name_bytes table) (2 ∷ (name_bytes key ++ (key_column ++ last))) (name_all table one.0) (on_bytes (2 ∷ name_bytes key) (key_column ++ last) (name_all key two.0)
-    (on_bytes key_column last refl (on_bytes (name_bytes value) (value_column ++ keys_and_comments) (name_all value two.1) refl)))
-change_all (RowInserted table row) e =
-    let one = and_true (is_valid_name table) (is_valid_row row) e in
-    on_bytes (0 ∷ 0 ∷ 0 ∷ 0 ∷ 1 ∷ 1 ∷ name_bytes table) (row_bytes row) (name_all table one.0) (on_bytes (0 ∷ 2 ∷ value_bytes row.key) (value_bytes row.value) (value_all row.key) (value_all row.value))
+number_all : (z : ℤ) → list_all is_byte (number_bytes z) ≡ true
+number_all (pos n) = marked_all (nat_lt n (2 ^ 63)) n
+number_all (negsuc n) = digits_bytes 8 (cast_unsigned w64 (negsuc n))
 
--- a step of reading, back
-step_back : {A B : Type 0} (o : Option A) (f : A → Option B) (x : A) → o ≡ Some x → (o >>= f) ≡ f x
-step_back {A = A} o f x e = ap (λ (p : Option A). p >>= f) e
+row_all : (k v : ℤ) → list_all is_byte (row_bytes (row_of k v)) ≡ true
+row_all k v = on_bytes (0 ∷ 2 ∷ number_bytes k) (number_bytes v ++ []) (number_all k) (on_bytes (number_bytes v) [] (number_all v) refl)
 
-table_back : (table key value : List ℕ) → is_valid_name table ≡ true → is_valid_name key ≡ true → is_valid_name value ≡ true
-    → table_in (name_bytes table ++ (2 ∷ (name_bytes key ++ (key_column ++ (name_bytes value ++ (value_column ++ keys_and_comments)))))) ≡ Some (TableCreated table key value)
-table_back table key value t k v =
-    step_back (name_in (name_bytes table ++ (2 ∷ (name_bytes key ++ (key_column ++ (name_bytes value ++ (value_column ++ keys_and_comments))))))) table_name
-    (table, 2 ∷ (name_bytes key ++ (key_column ++ (name_bytes value ++ (value_column ++ keys_and_comments))))) (name_back table _ t)
-    ∙ step_back (name_in (name_bytes key ++ (key_column ++ (name_bytes value ++ (value_column ++ keys_and_comments))))) (table_key table)
-    (key, key_column ++ (name_bytes value ++ (value_column ++ keys_and_comments))) (name_back key _ k)
-    ∙ step_back (name_in (name_bytes value ++ (value_column ++ keys_and_comments))) (table_value table key) (value, value_column ++ keys_and_comments) (name_back value _ v)
+table_all : (table key value : List ℕ) → is_valid_name table ≡ true → is_valid_name key ≡ true → is_valid_name value ≡ true → list_all is_byte (definition_bytes (table_def table key value)) ≡ true
+table_all table key value t k v =
+    let one : List ℕ = column_bytes (key_column key) in
+    let two : List ℕ = column_bytes (value_column value) in
+    let keys : List ℕ = 1 ∷ 0 ∷ 0 ∷ 0 ∷ 0 ∷ 0 ∷ 0 ∷ [] in
+    on_bytes (name_bytes table) ((2 ∷ (one ++ (two ++ []))) ++ keys) (name_all table t) (
+    on_bytes (2 ∷ (one ++ (two ++ []))) keys (
+    on_bytes (2 ∷ one) (two ++ []) (on_bytes (name_bytes key) (3 ∷ 0 ∷ 0 ∷ 0 ∷ 0 ∷ 0 ∷ []) (name_all key k) refl) (
+    on_bytes two [] (on_bytes (name_bytes value) (3 ∷ 0 ∷ 0 ∷ 0 ∷ 1 ∷ 1 ∷ 0 ∷ []) (name_all value v) refl) refl)) refl)
 
-insert_back : (table : List ℕ) (row : Row) → is_valid_name table ≡ true → is_valid_row row ≡ true → insert_in (0 ∷ 0 ∷ 0 ∷ 1 ∷ 1 ∷ (name_bytes table ++ row_bytes row)) ≡ Some (RowInserted table row)
-insert_back table row t v =
-    let parts = and_true (is_bigint row.key) (is_bigint row.value) v in
-    step_back (name_in (name_bytes table ++ row_bytes row)) insert_name (table, row_bytes row) (name_back table (row_bytes row) t)
-    ∙ step_back (value_in (value_bytes row.key ++ value_bytes row.value)) (insert_key table) (row.key, value_bytes row.value) (value_back row.key (value_bytes row.value) parts.0)
-    ∙ step_back (value_in (value_bytes row.value)) (insert_value table row.key) (row.value, []) (ap value_in (sym (append-nil (value_bytes row.value))) ∙ value_back row.value [] parts.1)
-
-change_back : (change : Change) → is_formed_change change ≡ true → change_in (change_bytes change) ≡ Some change
-change_back (TableCreated table key value) e =
-    let one = and_true (is_valid_name table) (is_valid_name key && is_valid_name value) e in
-    let two = and_true (is_valid_name key) (is_valid_name value) one.1 in
-    table_back table key value one.0 two.0 two.1
-change_back (RowInserted table row) e = let one = and_true (is_valid_name table) (is_valid_row row) e in insert_back table row one.0 one.1
+body_all : (b : CommitBody) → is_formed_body b ≡ true → list_all is_byte (body_bytes b) ≡ true
+body_all (body.Schema (schema.CreateTable def)) e = let d = table_is def e in subst (λ (x : TableDef). list_all is_byte (definition_bytes x) ≡ true) (sym d.is) (table_all def.name d.key d.value d.name_valid d.key_valid d.value_valid)
+body_all (body.Schema (schema.DropTable name)) e = cc
+body_all (body.Schema (schema.CreateIndex name key)) e = cc
+body_all (body.Schema (schema.DropIndex name key)) e = cc
+body_all (body.Rows []) e = cc
+body_all (body.Rows (change.Insert table row ∷ [])) e =
+    let p = and_parts (is_valid_name table) (is_valid_row row) e in
+    let r = row_is row p.1 in
+    let all : list_all is_byte (row_bytes row) ≡ true = subst (λ (x : Row). list_all is_byte (row_bytes x) ≡ true) (sym r.is) (row_all (key_of row) (value_of row)) in
+    on_bytes (0 ∷ 0 ∷ 0 ∷ 0 ∷ 1 ∷ 1 ∷ (name_bytes table ++ row_bytes row)) [] (on_bytes (0 ∷ 0 ∷ 0 ∷ 0 ∷ 1 ∷ 1 ∷ name_bytes table) (row_bytes row) (name_all table p.0) all) refl
+body_all (body.Rows (change.Update table old new ∷ [])) e = cc
+body_all (body.Rows (change.Delete table old ∷ [])) e = cc
+body_all (body.Rows (c ∷ d ∷ cs)) e = cc
 
 -- The bytes of a formed commit are read as that commit.
 pub read_back : (c : Commit) → is_formed c ≡ true → read_commit (commit_bytes c) ≡ Some c
 read_back c e =
-    let parts = and_true (nat_lt c.moment (2 ^ 64)) (is_formed_change c.change) e in
-    let all = on_bytes (big_bytes 8 c.moment) (change_bytes c.change) (digits_bytes 8 c.moment) (change_all c.change parts.1) in
-    ap (λ t. cond t (commit_in (commit_bytes c)) None) all
-    ∙ step_back (number_in 8 (commit_bytes c)) commit_moment (c.moment, change_bytes c.change) (number_back 8 c.moment (change_bytes c.change) (ltb-true c.moment (2 ^ 64) parts.0))
-    ∙ step_back (change_in (change_bytes c.change)) (commit_end c.moment) c.change (change_back c.change parts.1)
+    let p = and_parts (nat_lt c.moment (2 ^ 64)) (is_formed_body c.body) e in
+    let all = on_bytes (big_bytes 8 c.moment) (body_bytes c.body) (digits_bytes 8 c.moment) (body_all c.body p.1) in
+    ap (λ (t : Bool). cond t (given (reads_commit (commit_bytes c))) None) all ∙ ap given (commit_written c (commit_fits c e))

@@ -10,19 +10,19 @@ use Rattle.std.proofs.Math.Seq.{take-append-add}
 use Rattle.mr_first.specs.Bytes.{behind}
 use Rattle.mr_first.specs.World.{Event, World, output_of, added_by, trace, world_after, world_behind, later, event_at}
 use Rattle.mr_first.specs.ScriptRun.{IsWithin, acknowledged, acknowledged_or_next}
-use Rattle.mr_first.specs.declared.commits.Commit.{Commit}
-use Rattle.mr_first.specs.ReplyText.{text_of, line_of}
+use Rattle.mr_spec.specs.ReplyText.{text_of, line_of}
 use Rattle.mr_first.specs.declared.statements.Statement.{Statement}
-use Rattle.mr_first.specs.declared.replies.Reply.{Reply}
-use Rattle.mr_first.specs.declared.replies.Reply.TheVariants.{Done, Rows, Refused}
+use Rattle.mr_types.specs.declared.row.Commit.{Commit}
+use Rattle.mr_types.specs.declared.row.Reply.{Reply}
+use Rattle.mr_types.specs.declared.row.Reply.TheVariants as reply
 
 length-cons : {X : Type 0} (x : X) (xs : List X) → length (x ∷ xs) ≡ 1 + length xs
 length-cons x xs = omega arith
 
 pub text_some : (r : Reply) → 0 < length (text_of r)
-text_some (Done n) = omega (arith, length-cons 79 (75 ∷ 32 ∷ (decimal n ++ 10 ∷ [])))
-text_some (Refused n) = omega (arith, length-cons 69 (82 ∷ 82 ∷ 79 ∷ 82 ∷ 32 ∷ (decimal n ++ 10 ∷ [])))
-text_some (Rows rows) = omega (arith, length-cons 82 (79 ∷ 87 ∷ 83 ∷ 32 ∷ (decimal (length rows) ++ 10 ∷ [] ++ flat_map line_of rows)))
+text_some (reply.Ok n) = omega (arith, length-cons 79 (75 ∷ 32 ∷ (decimal n ++ 10 ∷ [])))
+text_some (reply.Refused n) = omega (arith, length-cons 69 (82 ∷ 82 ∷ 79 ∷ 82 ∷ 32 ∷ (decimal n ++ 10 ∷ [])))
+text_some (reply.Rows rows) = omega (arith, length-cons 82 (79 ∷ 87 ∷ 83 ∷ 32 ∷ (decimal (length rows) ++ 10 ∷ [] ++ flat_map line_of rows)))
 
 pub behind_front : (t x : List ℕ) → behind t (t ++ x) ≡ Some x
 behind_front [] x = refl

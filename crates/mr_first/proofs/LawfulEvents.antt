@@ -1,23 +1,28 @@
 -- Valid statements keep the commits lawful.
-use Rattle.std.proofs.Common.{◌≡◌, ℕ, suc, ◌≤◌, ◌<◌, ◌^◌, List, [], ◌∷◌, ◌++◌, Option, Some, None, true, false, not, ◌&&◌, refl, ap, sym, ◌∙◌, length, arith, nat_le, take, is_some, IfSome, append-nil, cond}
+use Rattle.std.proofs.Common.{◌≡◌, ℕ, suc, ◌≤◌, ◌<◌, ◌^◌, List, [], ◌∷◌, ◌++◌, Option, Some, None, true, false, not, ◌&&◌, refl, ap, sym, ◌∙◌, length, arith, nat_le, take, is_some, is_none, IfSome, append-nil, cond}
 use Rattle.std.specs.List.{list_all}
 use Rattle.std.specs.Option.{option_map_or}
 use Rattle.std.proofs.lemmas.Bool.{and_parts, and_from, lt-ltb}
 use Rattle.std.proofs.lemmas.List.Folds.{list_all-append}
 use Rattle.mr_first.specs.Bytes.{is_valid_name, same_name}
-use Rattle.mr_first.specs.Database.{replay, table_of, has_key, outcome_of, insert_outcome, select_outcome, refused, applied}
-use Rattle.mr_first.specs.Lawful.{are_lawful, is_lawful_change, IsLawful, is_free_key, is_valid_row}
+use Rattle.mr_first.specs.Database.{replay, table_of, has_key, outcome_of, insert_outcome, select_outcome, refused, applied, creates, inserts}
+use Rattle.mr_first.specs.Formed.{is_formed, is_formed_body}
+use Rattle.mr_first.specs.Lawful.{are_lawful, is_lawful_change, IsLawful, is_free_key}
+use Rattle.mr_first.specs.Plain.{is_valid_row, is_plain_table, do_names_differ}
+use Rattle.mr_first.specs.Served.{key_of}
 use Rattle.mr_first.specs.LawfulWorld.{IsLawfulWorld}
 use Rattle.mr_first.specs.Valid.{is_valid_statement, are_valid}
-use Rattle.mr_first.specs.CommitForm.{is_formed, is_formed_change}
 use Rattle.mr_first.specs.World.{World, last_moment, reopened, commits_at, outcome_at, moment_at, event_at, world_after, trace, world_behind, added_by}
-use Rattle.mr_first.specs.declared.tables.Table.{Table}
-use Rattle.mr_first.specs.declared.commits.Commit.{Commit}
-use Rattle.mr_first.specs.declared.commits.Change.{Change}
-use Rattle.mr_first.specs.declared.commits.Change.TheVariants.{TableCreated, RowInserted}
+use Rattle.mr_spec.specs.declared.world.Table.{Table}
+use Rattle.mr_types.specs.declared.row.Change.TheVariants as change
+use Rattle.mr_types.specs.declared.row.Schema.TheVariants as schema
+use Rattle.mr_types.specs.declared.row.CommitBody.{CommitBody}
+use Rattle.mr_types.specs.declared.row.CommitBody.TheVariants as body
+use Rattle.mr_types.specs.declared.row.Commit.{Commit}
+use Rattle.mr_types.specs.declared.row.Reply.TheVariants as reply
 use Rattle.mr_first.specs.declared.statements.Statement.{Statement}
 use Rattle.mr_first.specs.declared.statements.Statement.TheVariants.{CreateTable, Insert, Select}
-use Rattle.mr_first.specs.declared.replies.Reply.TheVariants.{Done}
+use Rattle.mr_first.proofs.PlainForms.{table_plain}
 use Rattle.mr_first.proofs.LawfulSteps.{lawful_push, lawful_part, last_moment_push}
 use Rattle.mr_first.proofs.Events.{commits_behind}
 use Rattle.mr_first.proofs.ValidStatements.{valid_script}
@@ -26,38 +31,42 @@ use Rattle.mr_first.specs.ScriptRun.{IsWithin, run_of, statements_of}
 -- ---- one statement
 
 -- a valid statement changes a database lawfully, where it changes it
-pub change_lawful : (tables : List Table) (s : Statement) → is_valid_statement s ≡ true → IfSome (outcome_of tables s).change (λ change. is_lawful_change tables change ≡ true)
+pub change_lawful : (tables : List Table) (s : Statement) → is_valid_statement s ≡ true → IfSome (outcome_of tables s).change (λ b. is_lawful_change tables b ≡ true)
 change_lawful tables (CreateTable name key value) valid =
     (elim (is_some (table_of name tables)) as (λ t. is_some (table_of name tables) ≡ t
-    → IfSome (cond t (refused 1050) (record { change = Some (TableCreated name key value); reply = Done 0 })).change (λ change. is_lawful_change tables change ≡ true)) [
+    → IfSome (cond t (refused 1050) (record { change = Some (creates name key value); reply = reply.Ok 0 })).change (λ b. is_lawful_change tables b ≡ true)) [
       | true ↦ λ e. tt
-      | false ↦ λ e. and_from _ _ (ap not e) valid
+      | false ↦ λ e.
+          let p = and_parts (is_valid_name name) (is_valid_name key && (is_valid_name value && not (same_name key value))) valid in
+          let q = and_parts (is_valid_name key) (is_valid_name value && not (same_name key value)) p.1 in
+          let r = and_parts (is_valid_name value) (not (same_name key value)) q.1 in
+          and_from _ _ (ap not e) (and_from _ _ (table_plain name key value p.0 q.0 r.0) r.1)
     ]) refl
 change_lawful tables (Insert name row) valid =
-    (elim (table_of name tables) as (λ o. table_of name tables ≡ o → IfSome (insert_outcome o name row).change (λ change. is_lawful_change tables change ≡ true)) [
+    (elim (table_of name tables) as (λ o. table_of name tables ≡ o → IfSome (insert_outcome o name row).change (λ b. is_lawful_change tables b ≡ true)) [
       | None ↦ λ e. tt
-      | Some t ↦ λ e. (elim (has_key row.key t.rows) as (λ b. has_key row.key t.rows ≡ b
-          → IfSome (cond b (refused 1062) (record { change = Some (RowInserted name row); reply = Done 1 })).change (λ change. is_lawful_change tables change ≡ true)) [
+      | Some t ↦ λ e. (elim (has_key (key_of row) t.rows) as (λ b. has_key (key_of row) t.rows ≡ b
+          → IfSome (cond b (refused 1062) (record { change = Some (inserts name row); reply = reply.Ok 1 })).change (λ b. is_lawful_change tables b ≡ true)) [
             | true ↦ λ there. tt
-            | false ↦ λ free. let p = and_parts (is_valid_name name) (is_valid_row row) valid in and_from _ _ p.0 (and_from _ _ p.1 (ap (is_free_key row.key) e ∙ ap not free))
+            | false ↦ λ free. let p = and_parts (is_valid_name name) (is_valid_row row) valid in and_from _ _ p.0 (and_from _ _ p.1 (ap (is_free_key (key_of row)) e ∙ ap not free))
           ]) refl
     ]) refl
 change_lawful tables (Select name) valid =
-    elim (table_of name tables) as (λ o. IfSome (select_outcome o).change (λ change. is_lawful_change tables change ≡ true)) [ None ↦ tt | Some t ↦ tt ]
+    elim (table_of name tables) as (λ o. IfSome (select_outcome o).change (λ b. is_lawful_change tables b ≡ true)) [ None ↦ tt | Some t ↦ tt ]
 
 -- also where a text may be no statement
-pub outcome_lawful : (w : World) (s : Option Statement) → option_map_or is_valid_statement s true ≡ true → IfSome (outcome_at w s).change (λ change. is_lawful_change (replay w.commits) change ≡ true)
+pub outcome_lawful : (w : World) (s : Option Statement) → option_map_or is_valid_statement s true ≡ true → IfSome (outcome_at w s).change (λ b. is_lawful_change (replay w.commits) b ≡ true)
 outcome_lawful w None valid = tt
 outcome_lawful w (Some s) valid = change_lawful (replay w.commits) s valid
 
-step_lawful : (w : World) (clock : ℕ) (o : Option Change) → IfSome o (λ change. is_lawful_change (replay w.commits) change ≡ true) → IsLawfulWorld w
+step_lawful : (w : World) (clock : ℕ) (o : Option CommitBody) → IfSome o (λ b. is_lawful_change (replay w.commits) b ≡ true) → IsLawfulWorld w
     → IsLawfulWorld (record { commits = w.commits ++ commits_at (moment_at w clock) o; moment = moment_at w clock })
 step_lawful w clock None change h = record {
   lawful = ap (are_lawful [] 0) (append-nil w.commits) ∙ h.lawful;
   moment = omega (arith, ap (last_moment 0) (append-nil w.commits), h.moment);
 }
 step_lawful w clock (Some c) change h =
-    let commit : Commit = record { moment = moment_at w clock; change = c } in
+    let commit : Commit = record { moment = moment_at w clock; body = c } in
     record {
       lawful = lawful_push [] 0 w.commits commit h.lawful (omega (arith, h.moment)) change;
       moment = omega (arith, last_moment_push 0 w.commits commit);
@@ -109,25 +118,29 @@ run_all_lawful script clock commits h = all_lawful (reopened commits) (statement
 -- ---- what commits can be written
 
 -- a lawful change can be written
-pub lawful_formed : (tables : List Table) (change : Change) → is_lawful_change tables change ≡ true → is_formed_change change ≡ true
-lawful_formed tables (TableCreated name key value) h =
-    let p = and_parts _ (is_valid_name name && (is_valid_name key && (is_valid_name value && not (same_name key value)))) h in
-    let q = and_parts (is_valid_name name) (is_valid_name key && (is_valid_name value && not (same_name key value))) p.1 in
-    let r = and_parts (is_valid_name key) (is_valid_name value && not (same_name key value)) q.1 in
-    and_from _ _ q.0 (and_from _ _ r.0 (and_parts (is_valid_name value) (not (same_name key value)) r.1).0)
-lawful_formed tables (RowInserted name row) h =
-    let p = and_parts (is_valid_name name) (is_valid_row row && is_free_key row.key (table_of name tables)) h in
-    and_from _ _ p.0 (and_parts (is_valid_row row) (is_free_key row.key (table_of name tables)) p.1).0
+pub lawful_formed : (tables : List Table) (b : CommitBody) → is_lawful_change tables b ≡ true → is_formed_body b ≡ true
+lawful_formed tables (body.Schema (schema.CreateTable def)) h =
+    (and_parts (is_plain_table def) (do_names_differ def.columns) ((and_parts (is_none (table_of def.name tables)) (is_plain_table def && do_names_differ def.columns) h).1)).0
+lawful_formed tables (body.Schema (schema.DropTable name)) h = h
+lawful_formed tables (body.Schema (schema.CreateIndex name key)) h = h
+lawful_formed tables (body.Schema (schema.DropIndex name key)) h = h
+lawful_formed tables (body.Rows []) h = h
+lawful_formed tables (body.Rows (change.Insert name row ∷ [])) h =
+    let p = and_parts (is_valid_name name) (is_valid_row row && is_free_key (key_of row) (table_of name tables)) h in
+    and_from _ _ p.0 (and_parts (is_valid_row row) (is_free_key (key_of row) (table_of name tables)) p.1).0
+lawful_formed tables (body.Rows (change.Update name old new ∷ [])) h = h
+lawful_formed tables (body.Rows (change.Delete name old ∷ [])) h = h
+lawful_formed tables (body.Rows (c ∷ d ∷ cs)) h = h
 
 -- so can each change of a lawful list
-pub all_formed : (tables : List Table) (m : ℕ) (commits : List Commit) → are_lawful tables m commits ≡ true → list_all (λ c. is_formed_change c.change) commits ≡ true
+pub all_formed : (tables : List Table) (m : ℕ) (commits : List Commit) → are_lawful tables m commits ≡ true → list_all (λ c. is_formed_body c.body) commits ≡ true
 all_formed tables m [] h = refl
 all_formed tables m (c ∷ cs) h =
-    let p = and_parts (nat_le m c.moment) (is_lawful_change tables c.change && are_lawful (applied c.change tables) c.moment cs) h in
-    let q = and_parts (is_lawful_change tables c.change) (are_lawful (applied c.change tables) c.moment cs) p.1 in
-    and_from _ _ (lawful_formed tables c.change q.0) (all_formed (applied c.change tables) c.moment cs q.1)
+    let p = and_parts (nat_le m c.moment) (is_lawful_change tables c.body && are_lawful (applied c.body tables) c.moment cs) h in
+    let q = and_parts (is_lawful_change tables c.body) (are_lawful (applied c.body tables) c.moment cs) p.1 in
+    and_from _ _ (lawful_formed tables c.body q.0) (all_formed (applied c.body tables) c.moment cs q.1)
 
-commits_formed : (tables : List Table) (moment : ℕ) (o : Option Change) → IfSome o (λ change. is_lawful_change tables change ≡ true) → moment < 2 ^ 64 → list_all is_formed (commits_at moment o) ≡ true
+commits_formed : (tables : List Table) (moment : ℕ) (o : Option CommitBody) → IfSome o (λ b. is_lawful_change tables b ≡ true) → moment < 2 ^ 64 → list_all is_formed (commits_at moment o) ≡ true
 commits_formed tables moment None h fits = refl
 commits_formed tables moment (Some c) h fits = and_from _ _ (and_from _ _ (lt-ltb moment (2 ^ 64) fits) (lawful_formed tables c h)) refl
 

@@ -4,8 +4,8 @@ use Rattle.std.proofs.lemmas.Bool.{and_parts, and_from, le-leb, leb-true, lt-leb
 use Rattle.mr_first.specs.Database.{applied, replayed, replay}
 use Rattle.mr_first.specs.Lawful.{are_lawful, is_lawful_change}
 use Rattle.mr_first.specs.World.{last_moment}
-use Rattle.mr_first.specs.declared.tables.Table.{Table}
-use Rattle.mr_first.specs.declared.commits.Commit.{Commit}
+use Rattle.mr_spec.specs.declared.world.Table.{Table}
+use Rattle.mr_types.specs.declared.row.Commit.{Commit}
 
 and_assoc : (a b c : Bool) → ((a && b) && c) ≡ (a && (b && c))
 and_assoc true b c = refl
@@ -14,10 +14,10 @@ and_assoc false b c = refl
 -- a list that is played behind another
 pub replayed_on : (tables : List Table) (a b : List Commit) → replayed tables (a ++ b) ≡ replayed (replayed tables a) b
 replayed_on tables [] b = refl
-replayed_on tables (c ∷ a) b = replayed_on (applied c.change tables) a b
+replayed_on tables (c ∷ a) b = replayed_on (applied c.body tables) a b
 
 -- the database after one more commit
-pub replay_push : (commits : List Commit) (c : Commit) → replay (commits ++ c ∷ []) ≡ applied c.change (replay commits)
+pub replay_push : (commits : List Commit) (c : Commit) → replay (commits ++ c ∷ []) ≡ applied c.body (replay commits)
 replay_push commits c = replayed_on [] commits (c ∷ [])
 
 pub last_moment_on : (m : ℕ) (a b : List Commit) → last_moment m (a ++ b) ≡ last_moment (last_moment m a) b
@@ -32,9 +32,9 @@ last_moment_push m commits c = last_moment_on m commits (c ∷ [])
 pub lawful_on : (tables : List Table) (m : ℕ) (a b : List Commit) → are_lawful tables m (a ++ b) ≡ (are_lawful tables m a && are_lawful (replayed tables a) (last_moment m a) b)
 lawful_on tables m [] b = refl
 lawful_on tables m (c ∷ a) b =
-    ap (λ t. nat_le m c.moment && (is_lawful_change tables c.change && t)) (lawful_on (applied c.change tables) c.moment a b)
-    ∙ ap (λ t. nat_le m c.moment && t) (sym (and_assoc (is_lawful_change tables c.change) (are_lawful (applied c.change tables) c.moment a) (are_lawful (replayed (applied c.change tables) a) (last_moment c.moment a) b)))
-    ∙ sym (and_assoc (nat_le m c.moment) (is_lawful_change tables c.change && are_lawful (applied c.change tables) c.moment a) (are_lawful (replayed (applied c.change tables) a) (last_moment c.moment a) b))
+    ap (λ t. nat_le m c.moment && (is_lawful_change tables c.body && t)) (lawful_on (applied c.body tables) c.moment a b)
+    ∙ ap (λ t. nat_le m c.moment && t) (sym (and_assoc (is_lawful_change tables c.body) (are_lawful (applied c.body tables) c.moment a) (are_lawful (replayed (applied c.body tables) a) (last_moment c.moment a) b)))
+    ∙ sym (and_assoc (nat_le m c.moment) (is_lawful_change tables c.body && are_lawful (applied c.body tables) c.moment a) (are_lawful (replayed (applied c.body tables) a) (last_moment c.moment a) b))
 
 -- the front of a lawful list is lawful
 pub lawful_front : (tables : List Table) (m : ℕ) (a b : List Commit) → are_lawful tables m (a ++ b) ≡ true → are_lawful tables m a ≡ true
@@ -68,13 +68,13 @@ and_false false = refl
 
 -- behind a lawful list, one more commit is lawful exactly where its moment doesn't fall and its change is lawful
 pub lawful_step : (tables : List Table) (m : ℕ) (commits : List Commit) (c : Commit) → are_lawful tables m commits ≡ true
-    → are_lawful tables m (commits ++ c ∷ []) ≡ (nat_le (last_moment m commits) c.moment && is_lawful_change (replayed tables commits) c.change)
+    → are_lawful tables m (commits ++ c ∷ []) ≡ (nat_le (last_moment m commits) c.moment && is_lawful_change (replayed tables commits) c.body)
 lawful_step tables m commits c h =
     lawful_on tables m commits (c ∷ [])
-    ∙ ap (λ t. t && (nat_le (last_moment m commits) c.moment && (is_lawful_change (replayed tables commits) c.change && true))) h
-    ∙ ap (λ t. nat_le (last_moment m commits) c.moment && t) (and_true (is_lawful_change (replayed tables commits) c.change))
+    ∙ ap (λ t. t && (nat_le (last_moment m commits) c.moment && (is_lawful_change (replayed tables commits) c.body && true))) h
+    ∙ ap (λ t. nat_le (last_moment m commits) c.moment && t) (and_true (is_lawful_change (replayed tables commits) c.body))
 
-pub lawful_push : (tables : List Table) (m : ℕ) (commits : List Commit) (c : Commit) → are_lawful tables m commits ≡ true → last_moment m commits ≤ c.moment → is_lawful_change (replayed tables commits) c.change ≡ true
+pub lawful_push : (tables : List Table) (m : ℕ) (commits : List Commit) (c : Commit) → are_lawful tables m commits ≡ true → last_moment m commits ≤ c.moment → is_lawful_change (replayed tables commits) c.body ≡ true
     → are_lawful tables m (commits ++ c ∷ []) ≡ true
 lawful_push tables m commits c h later change = lawful_step tables m commits c h ∙ and_from _ _ (le-leb _ _ later) change
 
@@ -84,17 +84,17 @@ pub record IsLawfulAt (tables : List Table) (m : ℕ) (done : List Commit) (c : 
   pub front : are_lawful tables m done ≡ true
   -- its moment doesn't fall
   pub moment : last_moment m done ≤ c.moment
-  pub change : is_lawful_change (replayed tables done) c.change ≡ true
+  pub change : is_lawful_change (replayed tables done) c.body ≡ true
   -- those up to it are lawful
   pub next : are_lawful tables m (done ++ c ∷ []) ≡ true
   -- those behind it are lawful on the database with it
-  pub behind : are_lawful (applied c.change (replayed tables done)) c.moment others ≡ true
+  pub behind : are_lawful (applied c.body (replayed tables done)) c.moment others ≡ true
 
 pub lawful_at : (tables : List Table) (m : ℕ) (done : List Commit) (c : Commit) (rest : List Commit) → are_lawful tables m (done ++ c ∷ rest) ≡ true → IsLawfulAt tables m done c rest
 lawful_at tables m done c rest h =
     let front : are_lawful tables m done ≡ true = lawful_front tables m done (c ∷ rest) h in
-    let here = and_parts (nat_le (last_moment m done) c.moment) (is_lawful_change (replayed tables done) c.change && are_lawful (applied c.change (replayed tables done)) c.moment rest) (lawful_behind tables m done (c ∷ rest) h) in
-    let parts = and_parts (is_lawful_change (replayed tables done) c.change) (are_lawful (applied c.change (replayed tables done)) c.moment rest) here.1 in
+    let here = and_parts (nat_le (last_moment m done) c.moment) (is_lawful_change (replayed tables done) c.body && are_lawful (applied c.body (replayed tables done)) c.moment rest) (lawful_behind tables m done (c ∷ rest) h) in
+    let parts = and_parts (is_lawful_change (replayed tables done) c.body) (are_lawful (applied c.body (replayed tables done)) c.moment rest) here.1 in
     record {
       front = front;
       moment = leb-true _ _ here.0;
@@ -107,14 +107,14 @@ lawful_at tables m done c rest h =
 pub unlawful_moment : (tables : List Table) (m : ℕ) (done : List Commit) (c : Commit) (rest : List Commit) → c.moment < last_moment m done → are_lawful tables m (done ++ c ∷ rest) ≡ false
 unlawful_moment tables m done c rest falls =
     lawful_on tables m done (c ∷ rest)
-    ∙ ap (λ t. are_lawful tables m done && (t && (is_lawful_change (replayed tables done) c.change && are_lawful (applied c.change (replayed tables done)) c.moment rest))) (lt-leb (last_moment m done) c.moment falls)
+    ∙ ap (λ t. are_lawful tables m done && (t && (is_lawful_change (replayed tables done) c.body && are_lawful (applied c.body (replayed tables done)) c.moment rest))) (lt-leb (last_moment m done) c.moment falls)
     ∙ and_false (are_lawful tables m done)
 
 -- nor where its change isn't lawful
-pub unlawful_change : (tables : List Table) (m : ℕ) (done : List Commit) (c : Commit) (rest : List Commit) → is_lawful_change (replayed tables done) c.change ≡ false → are_lawful tables m (done ++ c ∷ rest) ≡ false
+pub unlawful_change : (tables : List Table) (m : ℕ) (done : List Commit) (c : Commit) (rest : List Commit) → is_lawful_change (replayed tables done) c.body ≡ false → are_lawful tables m (done ++ c ∷ rest) ≡ false
 unlawful_change tables m done c rest bad =
     lawful_on tables m done (c ∷ rest)
-    ∙ ap (λ t. are_lawful tables m done && (nat_le (last_moment m done) c.moment && (t && are_lawful (applied c.change (replayed tables done)) c.moment rest))) bad
+    ∙ ap (λ t. are_lawful tables m done && (nat_le (last_moment m done) c.moment && (t && are_lawful (applied c.body (replayed tables done)) c.moment rest))) bad
     ∙ ap (λ t. are_lawful tables m done && t) (and_false (nat_le (last_moment m done) c.moment))
     ∙ and_false (are_lawful tables m done)
 

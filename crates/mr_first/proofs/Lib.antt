@@ -1,5 +1,3 @@
-pub mod ByteNumbers
-pub mod CommitFields
 pub mod CommitLaws
 pub mod CommitLength
 pub mod Cut
@@ -7,6 +5,7 @@ pub mod Events
 pub mod LawfulEvents
 pub mod LawfulSteps
 pub mod LogCommits
+pub mod PlainForms
 pub mod Replied
 pub mod TraceExt
 pub mod ValidStatements

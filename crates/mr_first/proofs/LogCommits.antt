@@ -1,11 +1,8 @@
 -- The commits of a binary log, record by record.
-use Rattle.std.proofs.Common.{◌≡◌, ℕ, List, [], ◌∷◌, ◌++◌, Option, Some, None, refl, ap, sym, ◌∙◌, length, arith, true, map}
-use Rattle.std.specs.List.{list_all}
-use Rattle.std.proofs.lemmas.Bool.{and_parts}
+use Rattle.std.proofs.Common.{◌≡◌, ℕ, List, [], ◌∷◌, ◌++◌, Option, Some, None, refl, ap, sym, ◌∙◌, length, arith}
 use Rattle.mr_first.specs.Grammar.{◌>>=◌}
-use Rattle.mr_first.specs.CommitForm.{read_commit, commit_bytes, is_formed}
-use Rattle.mr_first.specs.LogCommits.{read_commits}
-use Rattle.mr_first.specs.declared.commits.Commit.{Commit}
+use Rattle.mr_first.specs.LogCommits.{read_commit, read_commits}
+use Rattle.mr_types.specs.declared.row.Commit.{Commit}
 
 -- a step that gives something gave something before
 pub step_gives : {A B : Type 0} (o : Option A) (f : A → Option B) (b : B) → (o >>= f) ≡ Some b → (a : A) × (o ≡ Some a) × (f a ≡ Some b)
@@ -57,8 +54,3 @@ commits_none (first ∷ a) body b none = elim (read_commit first) as (λ o. (o >
   | None ↦ refl
   | Some c ↦ rw (commits_none a body b none) refl
 ]
-
--- commits that read back one by one read back as a log
-pub commits_back : ((c : Commit) → is_formed c ≡ true → read_commit (commit_bytes c) ≡ Some c) → (commits : List Commit) → list_all is_formed commits ≡ true → read_commits (map commit_bytes commits) ≡ Some commits
-commits_back reads [] h = refl
-commits_back reads (c ∷ cs) h = let p = and_parts (is_formed c) (list_all is_formed cs) h in commits_both (commit_bytes c) (map commit_bytes cs) c cs (reads c p.0) (commits_back reads cs p.1)

@@ -3,7 +3,7 @@ use Rattle.std.proofs.Common.{◌≡◌, ℕ, ◌+◌, ◌<◌, ◌≤◌, List,
 use Rattle.std.specs.Option.{option_map_or}
 use Rattle.std.proofs.lemmas.List.{append_cancel_left}
 use Rattle.mr_first.specs.Bytes.{behind}
-use Rattle.mr_first.specs.ReplyText.{text_of}
+use Rattle.mr_spec.specs.ReplyText.{text_of}
 use Rattle.mr_first.specs.World.{Event, output_of}
 use Rattle.mr_first.specs.Replied.{replied}
 use Rattle.mr_first.proofs.Events.{behind_front, behind_some, behind_none, text_some}

@@ -9,7 +9,7 @@ use Rattle.mr_first.specs.Tokens.{Token, is_letter, is_digit, is_word_byte, kind
 use Rattle.mr_first.specs.Grammar.{◌>>=◌, is_kind, is_keyword, is_sign, is_name, reserved, passing, name, ended, number_from, negated, below, digits, literal, create_head, create_tail, checked_table, create_table, insert, select, or_else, statement, read_statement}
 use Rattle.mr_first.specs.Cutting.{Part, Whole, Rest, parts_of, ended_by}
 use Rattle.mr_first.specs.ScriptRun.{read_part, statements_of, statements_in}
-use Rattle.mr_first.specs.Lawful.{is_bigint}
+use Rattle.mr_first.specs.Plain.{is_bigint}
 use Rattle.mr_first.specs.Valid.{is_valid_statement, are_valid}
 use Rattle.mr_first.specs.declared.statements.Statement.{Statement}
 use Rattle.mr_first.specs.declared.tokens.TokenKind.TheVariants.{Word, Number}

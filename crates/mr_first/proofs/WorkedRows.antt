@@ -1,12 +1,13 @@
 -- Worked scripts and bytes, by computation.
 use Rattle.std.proofs.Common.{◌≡◌, ℕ, pos, List, [], ◌∷◌, ◌++◌, refl, codes, Some}
 use Rattle.std.specs.Fmt.{digits}
-use Rattle.mr_first.specs.Grammar.{row_of}
+use Rattle.mr_first.specs.Database.{creates, inserts}
+use Rattle.mr_first.specs.Served.{row_of}
 use Rattle.mr_first.specs.ScriptRun.{run_of}
-use Rattle.mr_first.specs.CommitForm.{commit_bytes, read_commit}
+use Rattle.mr_first.specs.LogCommits.{read_commit}
+use Rattle.mr_binlog.specs.CommitForm.{commit_bytes}
 use Rattle.mr_first.specs.World.{reopened, output_of, added_by}
-use Rattle.mr_first.specs.declared.commits.Commit.{Commit}
-use Rattle.mr_first.specs.declared.commits.Change.TheVariants.{TableCreated, RowInserted}
+use Rattle.mr_types.specs.declared.row.Commit.{Commit}
 
 abbrev table_t : List ℕ
 table_t = codes "CREATE TABLE t (id BIGINT NOT NULL, v BIGINT, PRIMARY KEY (id));"
@@ -26,10 +27,10 @@ statements_refused = refl
 
 -- a table and a row, and what an opening then gives
 abbrev created : Commit
-created = record { moment = 7; change = TableCreated (codes "t") (codes "id") (codes "v") }
+created = record { moment = 7; body = creates (codes "t") (codes "id") (codes "v") }
 
 abbrev inserted : Commit
-inserted = record { moment = 7; change = RowInserted (codes "t") (row_of (pos 1) (pos 2)) }
+inserted = record { moment = 7; body = inserts (codes "t") (row_of (pos 1) (pos 2)) }
 
 two_commits : added_by (run_of (table_t ++ codes "INSERT INTO t VALUES (1,2);") (λ k. 7) (reopened [])) ≡ created ∷ inserted ∷ []
 two_commits = refl

@@ -6,7 +6,7 @@ use Rattle.std.specs.Prelude.{ℕ, ℤ, pos, negsuc, ◌+◌, ◌*◌, ◌-◌, 
 use Rattle.std.specs.Option.{option_map}
 use Rattle.mr_first.specs.Bytes.{folded, same_bytes, same_name, is_among}
 use Rattle.mr_first.specs.Tokens.{Token, tokens_of}
-use Rattle.mr_first.specs.declared.rows.Row.{Row}
+use Rattle.mr_first.specs.Served.{row_of}
 use Rattle.mr_first.specs.declared.statements.Statement.{Statement}
 use Rattle.mr_first.specs.declared.statements.Statement.TheVariants.{CreateTable, Insert, Select}
 use Rattle.mr_first.specs.declared.tokens.TokenKind.{TokenKind}
@@ -132,9 +132,6 @@ create_table ts = do
   head ← create_head ts
   tail ← create_tail head.2
   checked_table head.0 head.1 tail.0 tail.1
-
-abbrev pub row_of : ℤ → ℤ → Row
-row_of k v = record { key = k; value = v }
 
 -- INSERT INTO name VALUES ( literal , literal )
 abbrev pub insert : List Token → Option Statement

@@ -4,9 +4,9 @@ use Rattle.std.specs.Option.{option_map_or}
 use Rattle.mr_first.specs.Bytes.{behind}
 use Rattle.mr_first.specs.Cutting.{Part, Whole, Rest, parts_of, ended_by}
 use Rattle.mr_first.specs.Grammar.{read_statement}
-use Rattle.mr_first.specs.ReplyText.{text_of}
+use Rattle.mr_spec.specs.ReplyText.{text_of}
 use Rattle.mr_first.specs.World.{World, Event, trace, output_of, added_by}
-use Rattle.mr_first.specs.declared.commits.Commit.{Commit}
+use Rattle.mr_types.specs.declared.row.Commit.{Commit}
 use Rattle.mr_first.specs.declared.statements.Statement.{Statement}
 
 -- a rest at the script's end is no statement

@@ -3,7 +3,7 @@ use Rattle.std.specs.Prelude.{List, Option, Bool, true, not, ◌&&◌}
 use Rattle.std.specs.Option.{option_map_or}
 use Rattle.std.specs.List.{list_all}
 use Rattle.mr_first.specs.Bytes.{is_valid_name, same_name}
-use Rattle.mr_first.specs.Lawful.{is_valid_row}
+use Rattle.mr_first.specs.Plain.{is_valid_row}
 use Rattle.mr_first.specs.declared.statements.Statement.{Statement}
 use Rattle.mr_first.specs.declared.statements.Statement.TheVariants.{CreateTable, Insert, Select}
 

@@ -1,13 +1,13 @@
 -- The world that statements run in, what one statement does to it, and several one after the other.
 use Rattle.std.specs.Prelude.{ℕ, suc, max, List, [], ◌∷◌, ◌++◌, Option, Some, None, if◌then◌else◌, Bool, true, false}
 use Rattle.mr_first.specs.Database.{replay, outcome_of, refused}
-use Rattle.mr_first.specs.ReplyText.{text_of}
-use Rattle.mr_first.specs.declared.commits.Commit.{Commit}
-use Rattle.mr_first.specs.declared.commits.Change.{Change}
-use Rattle.mr_first.specs.declared.commits.Outcome.{Outcome}
+use Rattle.mr_spec.specs.ReplyText.{text_of}
+use Rattle.mr_first.specs.declared.outcome.Outcome.{Outcome}
 use Rattle.mr_first.specs.declared.statements.Statement.{Statement}
-use Rattle.mr_first.specs.declared.replies.Reply.{Reply}
-use Rattle.mr_first.specs.declared.replies.Reply.TheVariants.{Done, Rows, Refused}
+use Rattle.mr_types.specs.declared.row.CommitBody.{CommitBody}
+use Rattle.mr_types.specs.declared.row.Commit.{Commit}
+use Rattle.mr_types.specs.declared.row.Reply.{Reply}
+use Rattle.mr_types.specs.declared.row.Reply.TheVariants as reply
 
 -- the commits so far, and the moment
 pub record World : Type 0 where
@@ -29,9 +29,9 @@ pub record Event : Type 0 where
   pub reply : Reply
 
 -- a change is one commit
-abbrev pub commits_at : ℕ → Option Change → List Commit
+abbrev pub commits_at : ℕ → Option CommitBody → List Commit
 commits_at moment None = []
-commits_at moment (Some change) = record { moment = moment; change = change } ∷ []
+commits_at moment (Some body) = record { moment = moment; body = body } ∷ []
 
 -- what a statement does in a world; None stands for a text that is no statement
 abbrev pub outcome_at : World → Option Statement → Outcome
@@ -74,9 +74,9 @@ added_by [] = []
 added_by (e ∷ es) = e.added ++ added_by es
 
 abbrev pub is_refusal : Reply → Bool
-is_refusal (Refused code) = true
-is_refusal (Done n) = false
-is_refusal (Rows rows) = false
+is_refusal (reply.Refused code) = true
+is_refusal (reply.Ok n) = false
+is_refusal (reply.Rows rows) = false
 
 -- whether some reply was an error
 abbrev pub has_error : List Event → Bool

@@ -1,17 +1,13 @@
-//! What the engine means: its types, and in `specs/` the definitions that the contracts of other
-//! crates cite. No program computes here.
+//! What the served statements mean: their types, and in `specs/` the definitions that the contracts
+//! of other crates cite. Beside them the rows and the definitions of tables that these make.
 #![tactic(auto)]
 
-mod commits;
-mod replies;
-mod rows;
+mod forms;
+mod outcome;
 mod statements;
-mod tables;
 mod tokens;
 
-pub use commits::{Change, Commit, Outcome};
-pub use replies::Reply;
-pub use rows::{Row, RowList};
+pub use forms::{key_of, row_of, table_def, value_of};
+pub use outcome::Outcome;
 pub use statements::Statement;
-pub use tables::Table;
 pub use tokens::TokenKind;

@@ -1,7 +1,7 @@
 //! The statements that are served.
 
-use crate::rows::Row;
 use mr_base::Blob;
+use mr_types::Row;
 
 /// A statement; names are as written.
 #[derive(Drop)]

@@ -15,8 +15,8 @@ use Rattle.std.specs.BTreeMap.{insert_entry, is_at}
 use Rattle.mr_first.specs.Bytes.{same_bytes}
 use Rattle.mr_first.specs.Database.{table_of, with_row, placed, has_key}
 use Rattle.mr_first.specs.Lawful.{is_free_key}
-use Rattle.mr_first.specs.declared.rows.Row.{Row}
-use Rattle.mr_first.specs.declared.tables.Table.{Table}
+use Rattle.mr_types.specs.declared.row.Row.{Row}
+use Rattle.mr_spec.specs.declared.world.Table.{Table}
 use Rattle.mr_lists.specs.declared.held.Held.{Held}
 use Rattle.mr_lists.specs.Shown.{rows_in}
 use Rattle.mr_lists.specs.Listed.{named, table_at, tables_in}
@@ -60,9 +60,9 @@ or_none None = refl
 or_none (Some x) = refl
 
 -- a table whose name is free may stand in front or behind
-front_is : (n : List ℕ) (t : Table) (ts : List Table) → table_of t.name ts ≡ None → table_of n (t ∷ ts) ≡ option_or (table_of n ts) (cond (same_bytes t.name n) (Some t) None)
-front_is n t ts free = by_test (same_bytes t.name n) (λ b. cond b (Some t) (table_of n ts) ≡ option_or (table_of n ts) (cond b (Some t) None))
-    (λ h. ap (λ o. option_or o (Some t)) (sym (ap (λ m. table_of m ts) (sym ((bytes_eq-Decides t.name n).0 h)) ∙ free)))
+front_is : (n : List ℕ) (t : Table) (ts : List Table) → table_of t.def.name ts ≡ None → table_of n (t ∷ ts) ≡ option_or (table_of n ts) (cond (same_bytes t.def.name n) (Some t) None)
+front_is n t ts free = by_test (same_bytes t.def.name n) (λ b. cond b (Some t) (table_of n ts) ≡ option_or (table_of n ts) (cond b (Some t) None))
+    (λ h. ap (λ o. option_or o (Some t)) (sym (ap (λ m. table_of m ts) (sym ((bytes_eq-Decides t.def.name n).0 h)) ∙ free)))
     (λ h. sym (or_none (table_of n ts)))
 
 created_is : (n : List ℕ) (k : Vec ℕ) (held : Held) (es : List (Vec ℕ × Held)) → table_of k.items (tables_in es) ≡ None
@@ -94,8 +94,8 @@ stands_created k held es free = record {
 -- a row goes into no table of another name
 other_is : (n into : List ℕ) (r : Row) (ts : List Table) → same_bytes into n ≡ false → option_map (with_row into r) (table_of n ts) ≡ table_of n ts
 other_is n into r [] apart = refl
-other_is n into r (x ∷ ts) apart = by_test (same_bytes x.name n) (λ b. option_map (with_row into r) (cond b (Some x) (table_of n ts)) ≡ cond b (Some x) (table_of n ts))
-    (λ h. ap (λ b. Some (cond b (record x { rows = placed r x.rows }) x)) (ap (λ m. same_bytes m into) ((bytes_eq-Decides x.name n).0 h) ∙ same_flips n into ∙ apart))
+other_is n into r (x ∷ ts) apart = by_test (same_bytes x.def.name n) (λ b. option_map (with_row into r) (cond b (Some x) (table_of n ts)) ≡ cond b (Some x) (table_of n ts))
+    (λ h. ap (λ b. Some (cond b (record x { rows = placed r x.rows }) x)) (ap (λ m. same_bytes m into) ((bytes_eq-Decides x.def.name n).0 h) ∙ same_flips n into ∙ apart))
     (λ h. other_is n into r ts apart)
 
 some_is : {A : Type 0} {a b : A} → Some a ≡ Some b → a ≡ b

@@ -1,13 +1,13 @@
 -- The tables that are held, as a list.
 use Rattle.std.specs.Prelude.{ℕ, List, map}
 use Rattle.std.specs.Global.{Vec}
-use Rattle.mr_first.specs.declared.tables.Table.{Table}
+use Rattle.mr_spec.specs.declared.world.Table.{Table}
 use Rattle.mr_lists.specs.declared.held.Held.{Held}
 use Rattle.mr_lists.specs.Shown.{rows_in}
 
 -- what is held, as a table under this name
 abbrev pub named : List ℕ → Held → Table
-named name h = record { name = name; key = h.key; value = h.value; rows = rows_in h.rows }
+named name h = record { def = record h.def { name = name }; rows = rows_in h.rows }
 
 -- the table of an entry
 abbrev pub table_at : Vec ℕ × Held → Table

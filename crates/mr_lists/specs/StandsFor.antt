@@ -1,7 +1,7 @@
 -- When tables stand for a database.
 use Rattle.std.specs.Prelude.{◌≡◌, ℕ, List}
 use Rattle.mr_first.specs.Database.{table_of}
-use Rattle.mr_first.specs.declared.tables.Table.{Table}
+use Rattle.mr_spec.specs.declared.world.Table.{Table}
 
 -- each name has the same table in both, or none in either
 pub record StandsFor (tables database : List Table) : Type 0 where

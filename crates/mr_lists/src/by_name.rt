@@ -4,12 +4,14 @@ ghost use Rattle.std.specs.Prelude.{◌≡◌, true, [], ◌∷◌, ◌++◌, No
 ghost use Rattle.std.specs.Option.{option_map};
 ghost use Rattle.mr_first.specs.Database.{table_of, with_row};
 ghost use Rattle.mr_first.specs.Lawful.{is_free_key};
+ghost use Rattle.mr_first.specs.Plain.{is_valid_row};
+ghost use Rattle.mr_first.specs.Served.{key_of};
 ghost use Rattle.mr_lists.specs.StandsFor.{StandsFor};
 ghost use Rattle.mr_lists.specs.Listed.{tables_in, named};
 
 use crate::held::{Held, place};
 use mr_base::Memory;
-use mr_first::Row;
+use mr_types::Row;
 use std::collections::BTreeMap;
 
 /// What is held of each table, by its name.
@@ -34,7 +36,7 @@ pub(crate) fn create(tables: &mut ByName, name: Vec<u8>, held: Held) -> Result<(
 
 /// Puts a row under a free key of the table of a name.
 pub(crate) fn insert(tables: &mut ByName, name: &[u8], row: &Row) -> Result<(), Memory>
-    ensures { is_free_key row.now.key (table_of name.now (tables_in tables.old.entries)) ≡ true → OnOk result (StandsFor (tables_in tables.new.entries) (map (with_row name.now row.now) (tables_in tables.old.entries))) }
+    ensures { is_valid_row row.now ≡ true → is_free_key (key_of row.now) (table_of name.now (tables_in tables.old.entries)) ≡ true → OnOk result (StandsFor (tables_in tables.new.entries) (map (with_row name.now row.now) (tables_in tables.old.entries))) }
 {
     match tables.get_mut(name) {
         Some(held) => place(&mut held.rows, row),

@@ -2,29 +2,20 @@
 
 ghost use Rattle.std.specs.Prelude.{◌≡◌};
 ghost use Rattle.mr_first.specs.Database.{table_of};
-ghost use Rattle.mr_first.specs.Lawful.{is_lawful_change, is_free_key as is_free_key_of, is_valid_row as valid_row};
-ghost use Rattle.mr_first.specs.declared.commits.Change.TheVariants.{TableCreated};
+ghost use Rattle.mr_first.specs.Lawful.{is_lawful_change, is_lawful_row as lawful_row, is_lawful_schema as lawful_schema, is_free_key as is_free_key_of};
+ghost use Rattle.mr_types.specs.declared.row.Schema.TheVariants.{CreateTable};
 ghost use Rattle.mr_lists.specs.Listed.{tables_in};
 
 use crate::by_name::{ByName, find};
 use crate::held::has_key;
-use crate::names::{is_same_name, is_valid_name};
+use crate::names::is_valid_name;
+use crate::plain::{do_names_differ, is_plain_table, is_valid_row};
 use mr_base::Blob;
-use mr_first::{Change, Row};
-
-/// Whether both numbers are BIGINTs, as each number of 64 bits is.
-fn is_valid_row(row: &Row) -> bool
-    ensures { result ≡ valid_row row.now }
-{
-    let Row {
-        key: _key,
-        value: _value,
-    } = *row;
-    true
-}
+use mr_first::key_of;
+use mr_types::{Change, CommitBody, Schema, TableDef};
 
 /// Whether a table of this name is there, without a row of this key.
-fn is_free_key(tables: &ByName, table: &Blob, key: i64) -> bool
+fn is_free_key(tables: &ByName, table: &Blob, key: i128) -> bool
     ensures { result ≡ is_free_key_of key (table_of table.now (tables_in tables.now.entries)) }
 {
     match find(tables, table.as_slice()) {
@@ -33,28 +24,46 @@ fn is_free_key(tables: &ByName, table: &Blob, key: i64) -> bool
     }
 }
 
-fn is_lawful_table(tables: &ByName, table: &Blob, key: &Blob, value: &Blob) -> bool
-    ensures { result ≡ is_lawful_change (tables_in tables.now.entries) (TableCreated table.now key.now value.now) }
+fn is_lawful_table(tables: &ByName, def: &TableDef) -> bool
+    ensures { result ≡ lawful_schema (tables_in tables.now.entries) (CreateTable def.now) }
 {
-    if find(tables, table.as_slice()).is_some() {
+    if find(tables, def.name.as_slice()).is_some() {
         return false;
     }
-    is_valid_name(table.as_slice())
-        && is_valid_name(key.as_slice())
-        && is_valid_name(value.as_slice())
-        && !is_same_name(key.as_slice(), value.as_slice())
+    is_plain_table(def) && do_names_differ(def.columns.as_slice())
+}
+
+fn is_lawful_schema(tables: &ByName, schema: &Schema) -> bool
+    ensures { result ≡ lawful_schema (tables_in tables.now.entries) schema.now }
+{
+    match schema {
+        Schema::CreateTable(def) => is_lawful_table(tables, def),
+        _ => false,
+    }
+}
+
+fn is_lawful_row(tables: &ByName, change: &Change) -> bool
+    ensures { result ≡ lawful_row (tables_in tables.now.entries) change.now }
+{
+    match change {
+        Change::Insert { table, new } => {
+            is_valid_name(table.as_slice())
+                && is_valid_row(new)
+                && is_free_key(tables, table, key_of(new))
+        }
+        _ => false,
+    }
 }
 
 /// Whether a change is lawful on these tables.
-pub(crate) fn is_lawful(tables: &ByName, change: &Change) -> bool
+pub(crate) fn is_lawful(tables: &ByName, change: &CommitBody) -> bool
     ensures { result ≡ is_lawful_change (tables_in tables.now.entries) change.now }
 {
     match change {
-        Change::TableCreated { table, key, value } => is_lawful_table(tables, table, key, value),
-        Change::RowInserted { table, row } => {
-            is_valid_name(table.as_slice())
-                && is_valid_row(row)
-                && is_free_key(tables, table, row.key)
-        }
+        CommitBody::Schema(schema) => is_lawful_schema(tables, schema),
+        CommitBody::Rows(changes) => match changes.as_slice() {
+            [change] => is_lawful_row(tables, change),
+            _ => false,
+        },
     }
 }

@@ -6,6 +6,7 @@ mod held;
 mod lawful;
 mod names;
 mod outcomes;
+mod plain;
 mod tables;
 
 pub use tables::Tables;

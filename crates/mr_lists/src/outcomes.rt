@@ -1,14 +1,16 @@
 //! What a statement does.
 
 ghost use Rattle.std.specs.Prelude.{◌≡◌, IfOk};
-ghost use Rattle.mr_first.specs.Database.{refused as refused_of, outcome_of, insert_outcome, select_outcome, table_of};
-ghost use Rattle.mr_first.specs.declared.statements.Statement.TheVariants.{CreateTable, Insert, Select};
+ghost use Rattle.mr_first.specs.Database.{refused as refused_of, outcome_of, inserts, insert_outcome, select_outcome, table_of};
+ghost use Rattle.mr_first.specs.declared.statements.Statement.TheVariants.{CreateTable};
 ghost use Rattle.mr_lists.specs.Listed.{tables_in};
 
 use crate::by_name::{ByName, find};
 use crate::held::{has_key, list};
 use mr_base::{Blob, Memory};
-use mr_first::{Change, Outcome, Reply, Row, Statement};
+use mr_first::{Outcome, Statement, key_of, table_def};
+use mr_types::{Change, CommitBody, Reply, Row, Schema};
+use sqlite_items::Items;
 use std::alloc::Global;
 
 fn refused(code: u16) -> Outcome
@@ -35,10 +37,22 @@ fn create(
     let table = table.copy(alloc)?;
     let key = key.copy(alloc)?;
     let value = value.copy(alloc)?;
+    let def = table_def(alloc, table, key, value)?;
     Ok(Outcome {
-        change: Some(Change::TableCreated { table, key, value }),
-        reply: Reply::Done(0),
+        change: Some(CommitBody::Schema(Schema::CreateTable(def))),
+        reply: Reply::Ok(0),
     })
+}
+
+/// What a commit of one inserted row changes.
+fn insertion(alloc: Global, table: &Blob, row: &Row) -> Result<CommitBody, Memory>
+    ensures { IfOk result (λ b. b ≡ inserts table.now row.now) }
+{
+    let table = table.copy(alloc)?;
+    let new = row.copy(alloc)?;
+    let mut changes = Items::new(alloc);
+    changes.push(Change::Insert { table, new })?;
+    Ok(CommitBody::Rows(changes))
 }
 
 fn insert(tables: &ByName, alloc: Global, table: &Blob, row: &Row) -> Result<Outcome, Memory>
@@ -47,13 +61,13 @@ fn insert(tables: &ByName, alloc: Global, table: &Blob, row: &Row) -> Result<Out
     let Some(held) = find(tables, table.as_slice()) else {
         return Ok(refused(1146));
     };
-    if has_key(&held.rows, row.key) {
+    if has_key(&held.rows, key_of(row)) {
         return Ok(refused(1062));
     }
-    let table = table.copy(alloc)?;
+    let change = insertion(alloc, table, row)?;
     Ok(Outcome {
-        change: Some(Change::RowInserted { table, row: *row }),
-        reply: Reply::Done(1),
+        change: Some(change),
+        reply: Reply::Ok(1),
     })
 }
 

@@ -2,7 +2,8 @@
 
 use super::*;
 use mr_base::{Blob, Memory};
-use mr_first::{Change, Outcome, Reply, Row, Statement};
+use mr_first::{Outcome, Statement, row_of, table_def};
+use mr_types::{CommitBody, Reply, Schema, Value, ValueList};
 use std::alloc::{AllocError, Global};
 use std::test::Fail;
 
@@ -20,20 +21,29 @@ fn statement(
         return Ok(Statement::CreateTable { table, key, value });
     }
     if kind == "INSERT" {
-        let row = Row { key, value };
+        let row = row_of(alloc, key, value)?;
         return Ok(Statement::Insert { table, row });
     }
     Ok(Statement::Select { table })
 }
 
+/// The two numbers of a row of a reply.
+fn numbers(fields: &ValueList) -> (i128, i128) {
+    match fields.as_slice() {
+        [Value::Number(key), Value::Number(value)] => (*key, *value),
+        _ => (0, 0),
+    }
+}
+
 fn text(alloc: Global, reply: &Reply) -> Result<String, AllocError> {
     match reply {
-        Reply::Done(n) => format!(in alloc; "OK {n}"),
+        Reply::Ok(n) => format!(in alloc; "OK {n}"),
         Reply::Refused(code) => format!(in alloc; "ERROR {code}"),
         Reply::Rows(rows) => {
             let mut text = format!(in alloc; "ROWS")?;
             for row in rows.as_slice() {
-                let line = format!(in alloc; " {}={}", row.key, row.value)?;
+                let (key, value) = numbers(row);
+                let line = format!(in alloc; " {key}={value}")?;
                 text.push_str(line.as_str())?;
             }
             Ok(text)
@@ -88,11 +98,13 @@ fn unlawful_changes_are_known(rt: HostRuntime) -> Result<(), Fail> {
         ("t", "id", "ID", false),
         ("t\u{80}", "id", "v", false),
     ] {
-        let change = Change::TableCreated {
-            table: Blob::from_slice(alloc, table.as_bytes())?,
-            key: Blob::from_slice(alloc, key.as_bytes())?,
-            value: Blob::from_slice(alloc, value.as_bytes())?,
-        };
+        let def = table_def(
+            alloc,
+            Blob::from_slice(alloc, table.as_bytes())?,
+            Blob::from_slice(alloc, key.as_bytes())?,
+            Blob::from_slice(alloc, value.as_bytes())?,
+        )?;
+        let change = CommitBody::Schema(Schema::CreateTable(def));
         assert_eq!(rt; tables.is_lawful(&change), want, "{table} {key} {value}");
     }
     Ok(())

@@ -1,4 +1,3 @@
 pub mod Munch
 pub mod TokensOf
-pub mod CommitLemmas
 pub mod PlainLaws

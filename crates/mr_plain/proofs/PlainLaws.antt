@@ -1,17 +1,17 @@
 -- The plain program's runs, one behind the other.
 use Rattle.std.proofs.Common.{◌≡◌, ℕ, suc, max, List, [], ◌∷◌, ◌++◌, drop, Option, refl, ap, sym, ◌∙◌, subst, Bool, true, false, cond, ◌||◌, append_assoc, append-nil, map}
 use Rattle.mr_first.specs.Database.{replay, replayed}
-use Rattle.mr_first.specs.ReplyText.{text_of}
+use Rattle.mr_spec.specs.ReplyText.{text_of}
 use Rattle.mr_first.specs.World.{World, Event, trace, world_behind, event_at, commits_at, outcome_at, later, reopened, output_of, added_by, has_error, is_refusal}
 use Rattle.mr_first.proofs.Events.{trace_on, world_on, later_on, output_on, commits_behind}
 use Rattle.mr_first.proofs.Cut.{error_on, statements_on, left_on, script_is}
 use Rattle.mr_first.specs.Cutting.{left_by, rest_of}
 use Rattle.mr_first.specs.ScriptRun.{statements_in, statements_of, read_part}
 use Rattle.mr_first.proofs.LawfulSteps.{replayed_on}
-use Rattle.mr_first.specs.declared.commits.Commit.{Commit}
-use Rattle.mr_first.specs.declared.commits.Outcome.{Outcome}
+use Rattle.mr_types.specs.declared.row.Commit.{Commit}
+use Rattle.mr_first.specs.declared.outcome.Outcome.{Outcome}
 use Rattle.mr_first.specs.declared.statements.Statement.{Statement}
-use Rattle.mr_first.specs.declared.tables.Table.{Table}
+use Rattle.mr_spec.specs.declared.world.Table.{Table}
 use Rattle.mr_plain.specs.PlainRun.{values, Stands, RanFrom, Ran, IsReopened, IsRunOf}
 use Rattle.mr_plain.specs.declared.script.Plain.{Plain}
 

@@ -3,7 +3,7 @@ use Rattle.std.specs.Prelude.{◌≡◌, ℕ, List, ◌++◌, Option, slice_inde
 use Rattle.mr_first.specs.Database.{replay}
 use Rattle.mr_first.specs.ScriptRun.{run_of}
 use Rattle.mr_first.specs.World.{World, trace, world_behind, later, reopened, output_of, added_by, has_error}
-use Rattle.mr_first.specs.declared.commits.Commit.{Commit}
+use Rattle.mr_types.specs.declared.row.Commit.{Commit}
 use Rattle.mr_first.specs.declared.statements.Statement.{Statement}
 use Rattle.mr_plain.specs.declared.script.Plain.{Plain}
 use Rattle.mr_plain.specs.declared.script.Run.{Run}

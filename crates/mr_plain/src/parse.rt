@@ -8,7 +8,7 @@ use crate::lexer::tokens;
 use crate::phrases::{create, insert, select};
 use crate::token::Token;
 use mr_base::{Blob, Memory};
-use mr_first::Statement;
+use mr_first::{Statement, row_of};
 use std::alloc::Global;
 
 fn statement(alloc: Global, tokens: &[Token<'_>]) -> Result<Option<Statement>, Memory>
@@ -21,10 +21,10 @@ fn statement(alloc: Global, tokens: &[Token<'_>]) -> Result<Option<Statement>, M
             value: Blob::from_slice(alloc, value)?,
         }));
     }
-    if let Some((table, row)) = insert(tokens) {
+    if let Some((table, key, value)) = insert(tokens) {
         return Ok(Some(Statement::Insert {
             table: Blob::from_slice(alloc, table)?,
-            row,
+            row: row_of(alloc, key, value)?,
         }));
     }
     if let Some(table) = select(tokens) {

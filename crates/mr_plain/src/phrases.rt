@@ -5,10 +5,11 @@ ghost use Rattle.std.specs.Cmp.Lexicographic.{pointwise};
 ghost use Rattle.std.specs.Option.{option_map};
 ghost use Rattle.mr_first.specs.Bytes.{folded as folded_of, is_among as among, same_bytes};
 ghost use Rattle.mr_first.specs.Grammar.{is_kind as same_kind, is_keyword as keyword_at, is_sign as sign_at, keyword as keyword_of, sign as sign_of, name as name_of, select as select_of, insert as insert_of, literal as literal_of, is_name as name_at, reserved, number_from, negated as negated_of, below, digits as digits_of, ended as ended_of, create_head as head_of, create_tail as tail_of, create_table as create_of};
+ghost use Rattle.mr_first.specs.Served.{row_of};
 ghost use Rattle.mr_plain.specs.Views.{view, views};
 
 use crate::token::Token;
-use mr_first::{Row, Statement, TokenKind};
+use mr_first::{Statement, TokenKind};
 
 fn folded(byte: u8) -> u8
     ensures { result ≡ folded_of byte }
@@ -239,9 +240,9 @@ fn literal<'a, 'b>(tokens: &'a [Token<'b>]) -> Option<(i64, &'a [Token<'b>])>
     }
 }
 
-/// The table's name and the row, where the tokens are an INSERT.
-pub(crate) fn insert<'a, 'b>(tokens: &'a [Token<'b>]) -> Option<(&'b [u8], Row)>
-    ensures { option_map (λ r. Statement.Insert r.0.now r.1) result ≡ insert_of (views tokens.now) }
+/// The table's name and the row's two numbers, where the tokens are an INSERT.
+pub(crate) fn insert<'a, 'b>(tokens: &'a [Token<'b>]) -> Option<(&'b [u8], i64, i64)>
+    ensures { option_map (λ r. Statement.Insert r.0.now (row_of r.1 r.2)) result ≡ insert_of (views tokens.now) }
 {
     let rest = keyword(tokens, b"INSERT")?;
     let rest = keyword(rest, b"INTO")?;
@@ -253,7 +254,7 @@ pub(crate) fn insert<'a, 'b>(tokens: &'a [Token<'b>]) -> Option<(&'b [u8], Row)>
     let (value, rest) = literal(rest)?;
     let rest = sign(rest, b')')?;
     let _rest = ended(rest)?;
-    Some((table, Row { key, value }))
+    Some((table, key, value))
 }
 
 /// `CREATE TABLE name ( name BIGINT NOT NULL`

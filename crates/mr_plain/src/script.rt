@@ -4,16 +4,18 @@ ghost use Rattle.std.specs.Prelude.{◌≡◌, ℕ, List, [], ◌∷◌, ◌++�
 ghost use Rattle.mr_first.specs.Database.{replay, replayed};
 ghost use Rattle.mr_first.specs.Cutting.{left_by, part_of, rest_of};
 ghost use Rattle.mr_first.specs.ScriptRun.{statements_in, read_part};
-ghost use Rattle.mr_first.specs.ReplyText.{text_of};
 ghost use Rattle.mr_first.specs.World.{World, commits_at, outcome_at, last_moment as last_moment_of, is_refusal as refusal_of};
+ghost use Rattle.mr_spec.specs.ReplyText.{text_of};
 ghost use Rattle.mr_plain.specs.PlainRun.{Ran, IsReopened, IsRunOf};
 
 use crate::database::{apply, outcome_of};
 use crate::lexer::trim;
 use crate::parse::read_statement;
-use crate::replies::reply_text;
 use mr_base::Memory;
-use mr_first::{Change, Commit, Outcome, Reply, Statement, Table};
+use mr_first::{Outcome, Statement};
+use mr_print::reply_text;
+use mr_spec::Table;
+use mr_types::{Commit, CommitBody, Reply};
 use std::alloc::{AllocError, Global};
 use std::mem;
 
@@ -78,14 +80,14 @@ fn keep(
     tables: &mut Vec<Table>,
     commits: &mut Vec<Commit>,
     moment: u64,
-    change: Option<Change>,
+    change: Option<CommitBody>,
 ) -> Result<(), Memory>
     ensures tables { OnOk result (tables.new.items ≡ replayed tables.old.items (commits_at moment change)) }
     ensures commits { OnOk result (commits.new.items ≡ commits.old.items ++ commits_at moment change) }
 {
-    if let Some(change) = change {
-        apply(alloc, tables, &change)?;
-        push_commit(commits, Commit { moment, change })?;
+    if let Some(body) = change {
+        apply(alloc, tables, &body)?;
+        push_commit(commits, Commit { moment, body })?;
     }
     Ok(())
 }
@@ -178,7 +180,7 @@ fn replay_all(alloc: Global, commits: &[Commit]) -> Result<Vec<Table>, Memory>
 {
     let mut tables = Vec::new(alloc);
     for commit in commits {
-        apply(alloc, &mut tables, &commit.change)?;
+        apply(alloc, &mut tables, &commit.body)?;
     }
     Ok(tables)
 }

@@ -1,7 +1,8 @@
 //! Worked scripts, and the bytes of two commits.
 
 use super::*;
-use mr_first::Commit;
+use mr_binlog::{read_commit, write_commit};
+use mr_types::Commit;
 use std::test::Fail;
 
 /// A script on the empty database, the clock's values, and its output.
@@ -56,9 +57,9 @@ fn commits_as_bytes_and_reopened(rt: HostRuntime) -> Result<(), Fail> {
     let alloc = rt.alloc();
     let mut log: Vec<Commit> = Vec::new(alloc);
     for body in BODIES {
-        let commit = read_commit(alloc, body)?;
-        assert!(rt; commit.is_some());
-        if let Some(commit) = commit {
+        let commit = read_commit(alloc, body);
+        assert!(rt; commit.is_ok());
+        if let Ok(commit) = commit {
             let written = write_commit(alloc, &commit)?;
             assert_eq!(rt; written.as_slice(), body);
             log.push(commit)?;
@@ -66,6 +67,6 @@ fn commits_as_bytes_and_reopened(rt: HostRuntime) -> Result<(), Fail> {
     }
     let run = run_script(alloc, log, b"SELECT * FROM t;", &[])?;
     assert_eq!(rt; run.output.as_slice(), b"ROWS 1\n1\t2\n".as_slice());
-    assert!(rt; read_commit(alloc, &BODIES[0][..36])?.is_none());
+    assert!(rt; read_commit(alloc, &BODIES[0][..36]).is_err());
     Ok(())
 }

@@ -10,9 +10,9 @@ use Rattle.mr_base.proofs.Moments.{started, weaker, goes_on, at_end, same_file, 
 use Rattle.mr_gate.specs.Log.{IsLog, records_from, end_from, span}
 use Rattle.mr_gate.specs.Gate.{Gate, IsBeforeOrAfter, IsAfter, IsUntouched, HasNoRoom, full, appended, Stands as StandsOn}
 use Rattle.mr_gate.proofs.Laws.{stands_length}
-use Rattle.mr_first.specs.CommitForm.{read_commit, commit_bytes}
-use Rattle.mr_first.specs.LogCommits.{read_commits}
-use Rattle.mr_first.specs.declared.commits.Commit.{Commit}
+use Rattle.mr_binlog.specs.CommitForm.{commit_bytes}
+use Rattle.mr_first.specs.LogCommits.{read_commit, read_commits}
+use Rattle.mr_types.specs.declared.row.Commit.{Commit}
 use Rattle.mr_first.proofs.LogCommits.{commits_push}
 use Rattle.myrocks.specs.Causes.{GoesOn, KeepsOthers, IsCausedBy}
 use Rattle.myrocks.specs.Folder.{Holds}
@@ -59,8 +59,8 @@ goes_rises s old new c others = record { tells = c.tells; faults = c.faults; emi
 pub goes_emitted : (old new : State) (text : List ℕ) → EmitCounts old new → (Tells old → During old new (IsShown text (present old))) → GoesOn old new
 goes_emitted old new text c shown = record { tells = c.tells; faults = let e = c.faults in omega (arith, e); emit_faults = c.emit_faults; others = λ tells. others_shown old new text (shown tells) }
 
-pub goes_appended : (r a s : ℕ) (old new : State) (log : Gate) (P : List ℕ → Type 0) → IsReady log old → Counts r a s old new → (Tells old → During old new (OneFile log.file (present old) P)) → GoesOn old new
-goes_appended r a s old new log P ready c during = goes_counts r a s old new c (λ tells. others_file old new log.file P ready.file (during tells))
+pub goes_appended : (r a s : ℕ) (old new : State) (P : List ℕ → Type 0) → Counts r a s old new → (Tells old → During old new (OneFile 1 (present old) P)) → GoesOn old new
+goes_appended r a s old new P c during = goes_counts r a s old new c (λ tells. others_file old new 1 P refl (during tells))
 
 pub goes_opened : (s : ℕ) (old new : State) (P : List ℕ → Type 0) → Rises s old new → (Tells old → During old new (OneFile 1 (present old) P)) → GoesOn old new
 goes_opened s old new P c during = goes_rises s old new c (λ tells. others_file old new 1 P refl (during tells))
@@ -108,9 +108,9 @@ what_in (Damaged file at) = Log 1
 
 -- what the log's append does, as commits
 pub appends_one : (old new : State) (log : Gate) (body : List ℕ) (c : Commit) (ending : Option Ending) → IsReady log old → read_commit body ≡ Some c → length body ≡ length (commit_bytes c)
-    → (Tells old → During old new (OneFile log.file (present old) (λ b. IsAtRest (file_of old log.file) → IsBeforeOrAfter log.end body (file_of old log.file).bytes b)))
-    → (Tells old → ending ≡ None → IsAfter log.end body (file_of old log.file).bytes (file_of new log.file).bytes)
-    → (Tells old → ending ≡ None → IsAtRest (file_of new log.file))
+    → (Tells old → During old new (OneFile 1 (present old) (λ b. IsAtRest (file_of old 1) → IsBeforeOrAfter log.end body (file_of old 1).bytes b)))
+    → (Tells old → ending ≡ None → IsAfter log.end body (file_of old 1).bytes (file_of new 1).bytes)
+    → (Tells old → ending ≡ None → IsAtRest (file_of new 1))
     → (ending ≡ None → HasNoRoom log (length body) → ⊥)
     → ((what : FullKind) (at limit : ℕ) → ending ≡ Some (Stopped (Full what at limit)) → (Full what at limit ≡ full log) × HasNoRoom log (length body) × IsUntouched old new)
     → Appends old new (c ∷ []) ending
@@ -124,7 +124,7 @@ appends_one old new log body c ending ready read size during added durable fits 
   }) in_file;
   settled = λ d. record {
     log = log_holds_one commits c held (file_of new 1).bytes body settled.log read (after d 0 (records_from 0 held) log_now reaches);
-    at_rest = subst (λ f. IsAtRest (file_of new f)) ready.file (durable tells d);
+    at_rest = durable tells d;
     emitted = (at_end old new _ in_file).output ∙ settled.emitted;
   };
   room = λ d. (omega (arith, fits d, long, size, ready.limit), tt);
@@ -159,13 +159,13 @@ appends_one old new log body c ending ready read size during added durable fits 
     reaches = sym ((ready.stands tells).end ∙ ap (λ f. end_from f held) ready.from)
 
     in_file : During old new (OneFile 1 (present old) (λ b. IsAtRest (file_of old 1) → IsBeforeOrAfter log.end body held b))
-    in_file = subst (λ f. During old new (OneFile f (present old) (λ b. IsAtRest (file_of old f) → IsBeforeOrAfter log.end body (file_of old f).bytes b))) ready.file (during tells)
+    in_file = during tells
 
     long : log.end + 1 ≡ log_length commits
     long = omega (arith, reaches, span_is (records_from 0 held) commits settled.log.read)
 
     after : ending ≡ None → IsAfter log.end body held (file_of new 1).bytes
-    after d = subst (λ f. IsAfter log.end body (file_of old f).bytes (file_of new f).bytes) ready.file (added tells d)
+    after d = added tells d
 
 -- nothing was written
 pub appends_nothing : (s : State) (added : List Commit) (e : Ending) → ((what : FullKind) (at limit : ℕ) → e ≡ Stopped (Full what at limit) → ⊥) → Appends s s added (Some e)
@@ -192,13 +192,13 @@ appends_none s tells commits output settled = record {
 }
 
 -- the log goes on where it was
-pub ready_on : (old new : State) (log : Gate) (n : ℕ) → IsReady log old → (Tells old → StandsOn (appended log n) (file_of new log.file).bytes) → (Tells new → Tells old) → IsReady (appended log n) new
+pub ready_on : (old new : State) (log : Gate) (n : ℕ) → IsReady log old → (Tells old → StandsOn (appended log n) (file_of new 1).bytes) → (Tells new → Tells old) → IsReady (appended log n) new
 ready_on old new log n ready stands back = record {
   file = ready.file;
   from = ready.from;
   limit = ready.limit;
   is_open = refl;
-  stands = λ tells. subst (λ f. StandsOn (appended log n) (file_of new f).bytes) ready.file (stands (back tells));
+  stands = λ tells. stands (back tells);
 }
 
 -- an append that ended with an error, of which nothing is said

@@ -1,5 +1,5 @@
 -- From how a run ended to its status, and what that promises.
-use Rattle.std.proofs.Common.{◌≡◌, ◌⊎◌, ℕ, ◌+◌, ◌^◌, ◌<◌, ◌≤◌, List, [], ◌∷◌, ◌++◌, length, take, drop, Some, None, Option, refl, ap, sym, ◌∙◌, inl, inr, subst, arith, append_assoc, Bool, cond, IsTrue, Ok, Err, map}
+use Rattle.std.proofs.Common.{◌≡◌, ◌⊎◌, ℕ, ◌+◌, ◌^◌, ◌<◌, ◌≤◌, List, [], ◌∷◌, ◌++◌, length, take, drop, Some, None, Option, refl, ap, sym, ◌∙◌, inl, inr, subst, arith, append_assoc, length-append, Bool, cond, IsTrue, Ok, Err, map}
 use Rattle.std.proofs.lemmas.List.{take-append-drop}
 use Rattle.mr_base.specs.Disk.{State, Moment, Image, present, seen}
 use Rattle.mr_base.specs.Source.{SourceState, ClockState}
@@ -13,13 +13,13 @@ use Rattle.mr_first.specs.Lawful.{IsLawful}
 use Rattle.mr_first.specs.Replied.{replied}
 use Rattle.mr_first.specs.ScriptRun.{IsWithin, run_of, read_part, statements_in, statements_of}
 use Rattle.mr_first.specs.World.{World, Event, reopened, output_of, added_by, trace, world_behind, later}
-use Rattle.mr_first.specs.declared.commits.Commit.{Commit}
+use Rattle.mr_types.specs.declared.row.Commit.{Commit}
 use Rattle.mr_first.proofs.Cut.{script_is, statements_on}
 use Rattle.mr_first.proofs.Events.{trace_on, within_end, within_left, added_on}
 use Rattle.mr_first.proofs.LawfulEvents.{run_lawful, run_all_lawful}
 use Rattle.myrocks.specs.Ended.{RunsWhole, IsRunCause, reported, status}
 use Rattle.myrocks.specs.Folder.{StandsFor}
-use Rattle.myrocks.specs.Headline.{Headline, HaveRun, IsCrashPrefix, IsReported, IsStoppedFull, IsTooLong, IsUndisturbed, OrMemory}
+use Rattle.myrocks.specs.Headline.{Headline, HaveRun, IsCrashPrefix, IsReported, IsStoppedFull, IsTooLong, IsPastLimit, IsUndisturbed, OrMemory}
 use Rattle.myrocks.specs.Reading.{IsPart, run_of_taken}
 use Rattle.myrocks.specs.Room.{log_length, HasRoom}
 use Rattle.myrocks.specs.Settled.{IsSettled, IsInside, IsDue, counted}
@@ -88,17 +88,19 @@ too_long_of SourceFault taken events commits old new part is = absurd (omega (ar
 too_long_of TooLong taken events commits old new part is = record { taken_is = part.0; all_out = part.1.emitted }
 
 -- where the output is whole nothing is unfinished
-whole_out : (events : List Event) (taken : ℕ) (old new : State) → IsTooLong events taken old new → (2 ^ 30 < taken → length (present new).output < length ((present old).output ++ output_of events)) → ⊥
-whole_out events taken old new long short = let less = short (omega (arith, long.taken_is)) in omega (arith, less, ap length long.all_out)
+whole_out : (events : List Event) (taken : ℕ) (old new : State) → IsPastLimit events taken old new → (2 ^ 30 < taken → length (present new).output < length ((present old).output ++ output_of events)) → ⊥
+whole_out events taken old new past short =
+    let less = short past.more in
+    omega (arith, less, ap length past.out, length-append (present old).output (output_of events), length-append (present old).output (output_of events ++ past.beyond), length-append (output_of events) past.beyond)
 
-only_too_long_of : (e : Ending) (taken : ℕ) (events : List Event) (commits : List Commit) (old new : State) → IsPart (Some e) taken events commits (present old).output new → (status e ≡ 7 → ⊥) → IsTooLong events taken old new → OrMemory (status e) (status e ≡ 8)
-only_too_long_of (Stopped Memory) taken events commits old new part sound long = inr refl
-only_too_long_of (Stopped Disk) taken events commits old new part sound long = absurd (whole_out events taken old new long part)
-only_too_long_of (Stopped (Full what at limit)) taken events commits old new part sound long = absurd (whole_out events taken old new long part)
-only_too_long_of (Stopped (Damaged file at)) taken events commits old new part sound long = absurd (sound refl)
-only_too_long_of EmitFault taken events commits old new part sound long = absurd (whole_out events taken old new long part)
-only_too_long_of SourceFault taken events commits old new part sound long = absurd (omega (arith, part.0, long.taken_is))
-only_too_long_of TooLong taken events commits old new part sound long = inl refl
+only_too_long_of : (e : Ending) (taken : ℕ) (events : List Event) (commits : List Commit) (old new : State) → IsPart (Some e) taken events commits (present old).output new → (status e ≡ 7 → ⊥) → IsPastLimit events taken old new → OrMemory (status e) (status e ≡ 8)
+only_too_long_of (Stopped Memory) taken events commits old new part sound past = inr refl
+only_too_long_of (Stopped Disk) taken events commits old new part sound past = absurd (whole_out events taken old new past part)
+only_too_long_of (Stopped (Full what at limit)) taken events commits old new part sound past = absurd (whole_out events taken old new past part)
+only_too_long_of (Stopped (Damaged file at)) taken events commits old new part sound past = absurd (sound refl)
+only_too_long_of EmitFault taken events commits old new part sound past = absurd (whole_out events taken old new past part)
+only_too_long_of SourceFault taken events commits old new part sound past = absurd (omega (arith, part.0, past.more))
+only_too_long_of TooLong taken events commits old new part sound past = inl refl
 
 stop_same : (what : FullKind) (at limit length_now : ℕ) → what ≡ Log 1 → at ≡ length_now → limit ≡ 2 ^ 40 → Some (Full what at limit) ≡ Some (Full (Log 1) length_now (2 ^ 40))
 stop_same what at limit length_now a b c = ap (λ x. Some (Full x at limit)) a ∙ ap (λ x. Some (Full (Log 1) x limit)) b ∙ ap (λ x. Some (Full (Log 1) length_now x)) c
@@ -115,6 +117,7 @@ stopped_full script clock commits old new what at limit lawful due =
       ran = have_run due.first commits old new here.settled due.room (front_lawful script clock commits due.first (due.next ∷ due.others) due.split lawful);
       commit = here.commit;
       adds = here.adds;
+      sum = sym here.length_is ∙ here.sum;
       past = omega (arith, here.past, here.limit_is, here.length_is);
       says = stop_same what at limit (length (seen new 1)) here.what_is here.length_is here.limit_is;
     }
@@ -177,6 +180,8 @@ headline_done source_old source_new clock_old old new answer report failed commi
       crash_prefix = weaker old new _ _ (crash_prefix x.script x.clock commits (seen old) (present old).output stands) x.runs.moments;
       complete_run = λ l. record {
         ended = ended;
+        all_taken = all;
+        short = within;
         whole = have_run events commits old new (x.runs.settled refl) (x.runs.room refl) (run_all_lawful x.script x.clock commits stands.lawful);
         errors = is ∙ ap (λ (b : Bool). cond b 1 0) x.error;
       };
@@ -184,7 +189,7 @@ headline_done source_old source_new clock_old old new answer report failed commi
       enough = x.enough;
       cut_off = λ either. absurd (neither answer 4 8 either (λ a. omega (arith, a, low)) (λ b. omega (arith, b, low)));
       too_long = λ q. absurd (omega (arith, q, low));
-      only_too_long = λ long. absurd (omega (arith, long.taken_is, within));
+      only_too_long = λ past. absurd (omega (arith, past.more, within));
       full = λ q. absurd (omega (arith, q, low));
       completes = λ quiet short. inl low;
       reaches_limit = λ quiet long. absurd (omega (arith, long, all, within));
@@ -211,7 +216,7 @@ headline_early source_old source_new clock_old old new answer report e commits s
       enough = x.enough;
       cut_off = λ either. cut_off_of e report.taken part commits old new x.part (taken_lawful report.taken x.script x.clock commits stands.lawful) (subst (λ n. (n ≡ 4) ⊎ (n ≡ 8)) is either);
       too_long = λ q. too_long_of e report.taken part commits old new x.part (sym is ∙ q);
-      only_too_long = λ long. subst (λ n. OrMemory n (n ≡ 8)) (sym is) (only_too_long_of e report.taken part commits old new x.part sound long);
+      only_too_long = λ past. subst (λ n. OrMemory n (n ≡ 8)) (sym is) (only_too_long_of e report.taken part commits old new x.part sound past);
       full = λ q. subst (λ s. IsStoppedFull events commits old new s) (sym stop) (full_of e x.script x.clock commits old new stands.lawful x.runs.full (sym is ∙ q));
       completes = λ quiet short. elim (undisturbed quiet) [
         | inl long ↦ absurd (let t = (too_long_of e report.taken part commits old new x.part long).taken_is in omega (arith, t, x.enough, short))

@@ -3,9 +3,9 @@ use Rattle.std.proofs.Common.{◌≡◌, ℕ, ◌<◌, List, [], ◌∷◌, ◌+
 use Rattle.mr_base.specs.Disk.{State}
 use Rattle.mr_base.specs.declared.stop.Stop.TheVariants.{Memory, Disk, Full, Damaged}
 use Rattle.mr_base.specs.declared.stop.FullKind.{FullKind}
-use Rattle.mr_first.specs.ReplyText.{text_of}
+use Rattle.mr_spec.specs.ReplyText.{text_of}
 use Rattle.mr_first.specs.World.{Event, output_of, added_by}
-use Rattle.mr_first.specs.declared.commits.Commit.{Commit}
+use Rattle.mr_types.specs.declared.row.Commit.{Commit}
 use Rattle.mr_first.proofs.Events.{output_on, added_on}
 use Rattle.myrocks.specs.Room.{log_length, HasRoom}
 use Rattle.myrocks.specs.Settled.{early, IsPast, IsDue, IsUnfinished}

@@ -1,7 +1,7 @@
 -- The length of the log, and its room.
 use Rattle.std.proofs.Common.{◌≡◌, ℕ, ◌+◌, ◌≤◌, ◌^◌, List, [], ◌∷◌, ◌++◌, Some, ap, subst, arith, length}
 use Rattle.mr_first.specs.LogCommits.{read_commits}
-use Rattle.mr_first.specs.declared.commits.Commit.{Commit}
+use Rattle.mr_types.specs.declared.row.Commit.{Commit}
 use Rattle.mr_first.proofs.CommitLaws.{read_only}
 use Rattle.mr_first.proofs.LogCommits.{commits_cons}
 use Rattle.mr_gate.specs.Log.{span}
@@ -27,4 +27,4 @@ pub span_is : (bodies : List (List ℕ)) (commits : List Commit) → read_commit
 span_is [] commits read = let none : [] ≡ commits = cc in omega (arith, ap log_length none)
 span_is (body ∷ bodies) commits read =
     let x = commits_cons body bodies commits read in
-    omega (arith, span_is bodies x.1 x.3, ap log_length x.4, ap length (read_only body x.0 x.2).bytes_are)
+    omega (arith, span_is bodies x.1 x.3, ap log_length x.4, ap length (read_only body x.0 x.2))

@@ -4,11 +4,11 @@ use Rattle.std.proofs.lemmas.List.{append_cancel_left, take-append-drop}
 use Rattle.mr_base.specs.Disk.{State, Moment, Tells, MayLeave, present, file_of}
 use Rattle.mr_base.specs.Calls.{During, IsShown}
 use Rattle.mr_base.proofs.Moments.{started, weaker, goes_on, at_end}
-use Rattle.mr_first.specs.ReplyText.{text_of}
+use Rattle.mr_spec.specs.ReplyText.{text_of}
 use Rattle.mr_first.specs.Replied.{replied}
 use Rattle.mr_first.specs.ScriptRun.{IsWithin}
 use Rattle.mr_first.specs.World.{Event, output_of, added_by}
-use Rattle.mr_first.specs.declared.commits.Commit.{Commit}
+use Rattle.mr_types.specs.declared.row.Commit.{Commit}
 use Rattle.mr_first.proofs.Events.{output_on, added_on, text_some, within_start, within_left, within_right, within_reply, within_added}
 use Rattle.mr_first.proofs.Replied.{replied_none, replied_behind, replied_all, replied_more, replied_front}
 use Rattle.myrocks.specs.Emitting.{IsCutShort}

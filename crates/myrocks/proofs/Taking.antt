@@ -7,7 +7,7 @@ use Rattle.mr_first.specs.Bytes.{trimmed}
 use Rattle.mr_first.specs.Cutting.{left_by, rest_of}
 use Rattle.mr_first.specs.ScriptRun.{statements_in, read_part, statements_of, run_of}
 use Rattle.mr_first.specs.World.{World, Event, trace, world_behind, later}
-use Rattle.mr_first.specs.declared.commits.Commit.{Commit}
+use Rattle.mr_types.specs.declared.row.Commit.{Commit}
 use Rattle.mr_first.proofs.Cut.{statements_on, script_is, left_on}
 use Rattle.mr_first.proofs.Events.{trace_on}
 use Rattle.myrocks.specs.Causes.{IsCausedBy}

@@ -14,7 +14,7 @@ use Rattle.mr_gate.specs.Gate.{IsDamage}
 use Rattle.mr_first.specs.Replied.{replied}
 use Rattle.mr_first.specs.ScriptRun.{IsWithin, run_of}
 use Rattle.mr_first.specs.World.{Event, reopened, output_of, has_error}
-use Rattle.mr_first.specs.declared.commits.Commit.{Commit}
+use Rattle.mr_types.specs.declared.row.Commit.{Commit}
 use Rattle.mr_first.proofs.Events.{within_start}
 use Rattle.mr_first.proofs.Replied.{replied_none}
 use Rattle.myrocks.specs.Ended.{RunsWhole, AnswersError, IsRunCause, KeepsDamaged, status}

@@ -8,7 +8,7 @@ use Rattle.mr_base.specs.declared.stop.Stop.{Stop}
 use Rattle.mr_base.specs.declared.stop.Stop.TheVariants.{Memory, Disk, Full, Damaged}
 use Rattle.mr_first.specs.ScriptRun.{run_of}
 use Rattle.mr_first.specs.World.{reopened, has_error}
-use Rattle.mr_first.specs.declared.commits.Commit.{Commit}
+use Rattle.mr_types.specs.declared.row.Commit.{Commit}
 use Rattle.myrocks.specs.Causes.{IsFull}
 use Rattle.myrocks.specs.Opening.{IsDamagedAt}
 use Rattle.myrocks.specs.Reading.{IsPart, run_of_taken}

@@ -4,7 +4,7 @@ use Rattle.mr_base.specs.Disk.{Image}
 use Rattle.mr_gate.specs.Log.{records_from, is_damaged_from}
 use Rattle.mr_first.specs.Lawful.{IsLawful}
 use Rattle.mr_first.specs.LogCommits.{read_commits}
-use Rattle.mr_first.specs.declared.commits.Commit.{Commit}
+use Rattle.mr_types.specs.declared.row.Commit.{Commit}
 
 -- a file is a log without damage, and the bodies of its records are these commits
 pub record Holds (commits : List Commit) (bytes : List ℕ) : Type 0 where

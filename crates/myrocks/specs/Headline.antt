@@ -10,7 +10,7 @@ use Rattle.mr_base.specs.declared.stop.FullKind.TheVariants.{Log}
 use Rattle.mr_first.specs.Replied.{replied}
 use Rattle.mr_first.specs.ScriptRun.{run_of, IsWithin}
 use Rattle.mr_first.specs.World.{Event, reopened, output_of, added_by, has_error}
-use Rattle.mr_first.specs.declared.commits.Commit.{Commit}
+use Rattle.mr_types.specs.declared.row.Commit.{Commit}
 use Rattle.myrocks.specs.Causes.{IsFull}
 use Rattle.myrocks.specs.Folder.{StandsFor}
 use Rattle.myrocks.specs.Opening.{IsDamagedAt}
@@ -35,9 +35,11 @@ pub record HaveRun (events : List Event) (commits : List Commit) (old new : Stat
   pub at_rest : IsAtRest (file_of new 1)
   pub room : HasRoom (log_length commits) (added_by events)
 
--- the run came to its end: the source is at its end, and all events ran
-pub record IsComplete (events : List Event) (commits : List Commit) (source_old source_new : SourceState) (old new : State) (status : ℕ) : Type 0 where
+-- the run came to its end: the source is at its end, the whole script was taken and is no longer than a script may be, and all events ran
+pub record IsComplete (script : List ℕ) (taken : ℕ) (events : List Event) (commits : List Commit) (source_old source_new : SourceState) (old new : State) (status : ℕ) : Type 0 where
   pub ended : IsTrue source_old.tells → source_new.left ≡ []
+  pub all_taken : taken ≡ length script
+  pub short : taken ≤ 2 ^ 30
   pub whole : HaveRun events commits old new
   pub errors : status ≡ end_status events
 
@@ -46,7 +48,14 @@ pub record IsTooLong (events : List Event) (taken : ℕ) (old new : State) : Typ
   pub taken_is : taken ≡ 2 ^ 30 + 1
   pub all_out : (present new).output ≡ (present old).output ++ output_of events
 
--- The first events ran, and the next one has a commit that would take the log, as long as it is, past its limit. The stop says so.
+-- the source gave more bytes than a script may have, and all that these events reply is out, whatever stands behind it
+pub record IsPastLimit (events : List Event) (taken : ℕ) (old new : State) : Type 0 where
+  pub more : 2 ^ 30 < taken
+  pub beyond : List ℕ
+  pub out : (present new).output ≡ (present old).output ++ (output_of events ++ beyond)
+
+-- The first events ran, and the next one has a commit that would take the log, which is all that its file has, past its limit. The
+-- stop says so.
 pub record IsStoppedFull (events : List Event) (commits : List Commit) (old new : State) (stop : Option Stop) : Type 0 where
   pub first : List Event
   pub next : Event
@@ -55,6 +64,7 @@ pub record IsStoppedFull (events : List Event) (commits : List Commit) (old new 
   pub ran : HaveRun first commits old new
   pub commit : Commit
   pub adds : next.added ≡ commit ∷ []
+  pub sum : length (seen new 1) ≡ log_length (commits ++ added_by first)
   pub past : 2 ^ 40 < length (seen new 1) + record_size commit
   pub says : stop ≡ Some (Full (Log 1) (length (seen new 1)) (2 ^ 40))
 
@@ -81,15 +91,16 @@ pub record Headline (source_old source_new : SourceState) (clock_old : ClockStat
   -- at every moment a stop leaves a valid folder, with the commits up to a prefix that has each one whose reply is out
   pub crash_prefix : During old new (IsCrashPrefix (run_of script clock (reopened commits)) commits (present old).output)
   -- the statuses 0 and 1 say that all was done
-  pub complete_run : status < 2 → IsComplete (run_of script clock (reopened commits)) commits source_old source_new old new status
+  pub complete_run : status < 2 → IsComplete script report.taken (run_of script clock (reopened commits)) commits source_old source_new old new status
   -- the replies that were counted are those that are out
   pub replies : (shown : List ℕ) → (present new).output ≡ (present old).output ++ shown → counted report.statements ≡ counted (replied (run_of script clock (reopened commits)) shown)
   -- so many bytes of the script were taken, and the statuses 4 and 8 say that each statement that ended among them was served
   pub enough : report.taken ≤ length script
   pub cut_off : (status ≡ 4) ⊎ (status ≡ 8) → HaveRun (run_of_taken report.taken script clock (reopened commits)) commits old new
-  -- the status is 8 exactly where the source gave a byte too many, and all replies up to it are out
+  -- the status 8 says that the source gave a byte too many and all replies up to it are out; where it gave too many and they are
+  -- out, it is 8
   pub too_long : status ≡ 8 → IsTooLong (run_of_taken report.taken script clock (reopened commits)) report.taken old new
-  pub only_too_long : IsTooLong (run_of_taken report.taken script clock (reopened commits)) report.taken old new → OrMemory status (status ≡ 8)
+  pub only_too_long : IsPastLimit (run_of_taken report.taken script clock (reopened commits)) report.taken old new → OrMemory status (status ≡ 8)
   -- the status 9 says that the log is full for the very next commit
   pub full : status ≡ 9 → IsStoppedFull (run_of script clock (reopened commits)) commits old new report.stop
   -- undisturbed, a run comes to its end, or to the byte that no script may have

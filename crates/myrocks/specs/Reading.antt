@@ -4,7 +4,7 @@ use Rattle.mr_base.specs.Disk.{State, Tells, present}
 use Rattle.mr_base.specs.Source.{SourceState, ClockState}
 use Rattle.mr_first.specs.ScriptRun.{statements_in, run_of}
 use Rattle.mr_first.specs.World.{World, Event, trace, output_of, added_by, has_error}
-use Rattle.mr_first.specs.declared.commits.Commit.{Commit}
+use Rattle.mr_types.specs.declared.row.Commit.{Commit}
 use Rattle.myrocks.specs.Room.{log_length, HasRoom}
 use Rattle.myrocks.specs.Serving.{Stands}
 use Rattle.myrocks.specs.Settled.{IsSettled, IsUnfinished, Runs}

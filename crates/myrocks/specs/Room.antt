@@ -1,7 +1,7 @@
 -- How long the binary log is, and for which commits it has room.
 use Rattle.std.specs.Prelude.{ℕ, ◌+◌, ◌^◌, ◌≤◌, List, [], ◌∷◌, length}
-use Rattle.mr_first.specs.CommitForm.{commit_bytes}
-use Rattle.mr_first.specs.declared.commits.Commit.{Commit}
+use Rattle.mr_binlog.specs.CommitForm.{commit_bytes}
+use Rattle.mr_types.specs.declared.row.Commit.{Commit}
 
 -- what a commit takes in the log: five bytes and its body
 abbrev pub record_size : Commit → ℕ

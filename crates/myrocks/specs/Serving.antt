@@ -8,9 +8,9 @@ use Rattle.std.specs.Option.{option_map_or}
 use Rattle.mr_first.specs.Database.{replay, applied}
 use Rattle.mr_first.specs.World.{World, trace, world_behind, has_error}
 use Rattle.mr_first.specs.Valid.{is_valid_statement}
-use Rattle.mr_first.specs.declared.commits.Change.{Change}
+use Rattle.mr_types.specs.declared.row.CommitBody.{CommitBody}
 use Rattle.mr_first.specs.declared.statements.Statement.{Statement}
-use Rattle.mr_first.specs.declared.tables.Table.{Table}
+use Rattle.mr_spec.specs.declared.world.Table.{Table}
 use Rattle.myrocks.specs.Settled.{Runs}
 use Rattle.myrocks.specs.declared.ending.Ending.{Ending}
 use Rattle.myrocks.specs.declared.server.Server.{Server}
@@ -30,12 +30,12 @@ pub record Stands (server : Server) (w : World) : Type 0 where
 
 -- the server stands for some world, and its log is ready
 pub record IsServing (server : Server) (s : State) : Type 0 where
-  pub log : IsReady server.log s
+  pub log : IsReady server.log.gate s
   pub world : World
   pub stands : Stands server world
 
 -- the database after a change, where there is one
-abbrev pub after_change : List Table → Option Change → List Table
+abbrev pub after_change : List Table → Option CommitBody → List Table
 after_change database None = database
 after_change database (Some change) = applied change database
 

@@ -8,7 +8,7 @@ use Rattle.mr_base.specs.declared.stop.FullKind.TheVariants.{Log}
 use Rattle.mr_first.specs.Replied.{replied}
 use Rattle.mr_first.specs.ScriptRun.{IsWithin}
 use Rattle.mr_first.specs.World.{Event, output_of, added_by}
-use Rattle.mr_first.specs.declared.commits.Commit.{Commit}
+use Rattle.mr_types.specs.declared.row.Commit.{Commit}
 use Rattle.myrocks.specs.Folder.{Holds}
 use Rattle.myrocks.specs.Room.{record_size, log_length, HasRoom}
 use Rattle.myrocks.specs.declared.ending.Ending.{Ending}

@@ -4,10 +4,11 @@ ghost use Rattle.std.specs.Prelude.{◌≡◌, ◌≢◌, ◌⊎◌, ◌≤◌, 
 ghost use Rattle.mr_base.specs.Disk.{Tells, HasRisen, NothingPending, present, seen, file_of};
 ghost use Rattle.mr_base.specs.Calls.{Same};
 ghost use Rattle.mr_gate.specs.Log.{is_damaged_from};
-ghost use Rattle.mr_first.specs.declared.commits.Commit.{Commit};
+ghost use Rattle.mr_types.specs.declared.row.Commit.{Commit};
 ghost use Rattle.mr_words.specs.Form.{IsRunForm};
-ghost use Rattle.myrocks.specs.Causes.{GoesOn, KeepsOthers};
+ghost use Rattle.myrocks.specs.Causes.{GoesOn};
 ghost use Rattle.myrocks.specs.Folder.{StandsFor, IsValid};
+ghost use Rattle.myrocks.specs.Opening.{IsSilent, KeepsRecords};
 ghost use Rattle.myrocks.specs.Headline.{Headline, IsReported};
 ghost use Rattle.myrocks.specs.Ended.{RunsWhole, IsRunCause, IsServed, KeepsDamaged, IsQuiet, reported, status};
 ghost use Rattle.myrocks.specs.Reading.{IsTaken};
@@ -75,12 +76,16 @@ fn run_all<S: Source, H: Host, C: Clock>(
         → RunsWhole (S.source source.old) report.new.taken (C.clock clock.old) (H.disk host.old) (H.disk host.new) report.new.statements result commits }
     ensures ended { IsTrue (S.source source.old).tells → OnOk result ((S.source source.new).left ≡ []) }
     ensures taken { IsTaken (S.source source.old) (S.source source.new) report.new.taken }
+    ensures at_most { report.new.taken ≤ 1073741825 }
     ensures stop { report.new.stop ≡ report.old.stop }
     ensures cause { IfErr result (IsRunCause (S.source source.old) (S.source source.new) (H.disk host.old) (H.disk host.new) report.new.taken) }
     ensures goes_on { GoesOn (H.disk host.old) (H.disk host.new) }
     ensures kept { IfErr result (KeepsDamaged (H.disk host.old) (H.disk host.new)) }
     ensures quiet { IfErr result (λ e. IsQuiet e report.new.taken report.new.statements) }
     ensures valid { Tells (H.disk host.old) → IsServed result (IsValid (seen (H.disk host.old))) }
+    ensures silent { Tells (H.disk host.old) → (IsValid (seen (H.disk host.old)) → ⊥) → IsSilent (H.disk host.old) (H.disk host.new) }
+    ensures unserved { Tells (H.disk host.old) → (IsValid (seen (H.disk host.old)) → ⊥) → (report.new.taken ≡ 0) × (report.new.statements ≡ 0) }
+    ensures records_stay { Tells (H.disk host.old) → (IsValid (seen (H.disk host.old)) → ⊥) → KeepsRecords (H.disk host.old) (H.disk host.new) }
 {
     let mut shell = Shell {
         server: open(alloc, host)?,
@@ -109,8 +114,8 @@ pub fn run<S: Source, H: Host, C: Clock>(
     ensures headline { IsRunForm (map string_bytes words.now) → Tells (H.disk host.old) → (commits : List Commit) → StandsFor (seen (H.disk host.old)) commits → NothingPending (present (H.disk host.old))
         → Headline (S.source source.old) (S.source source.new) (C.clock clock.old) (H.disk host.old) (H.disk host.new) result report.new commits }
 
-    // At every moment each file but the binary log is as it was.
-    ensures others { Tells (H.disk host.old) → KeepsOthers (H.disk host.old) (H.disk host.new) }
+    // Whether the host tells stays, no count of faults falls, and at each moment each file but the binary log is as it was.
+    ensures goes_on { GoesOn (H.disk host.old) (H.disk host.new) }
     ensures bound { result ≤ 9 }
     ensures usage { (result ≡ 2) ↔ (IsRunForm (map string_bytes words.now) → ⊥) }
     ensures untouched { result ≡ 2 → (host.new ≡ host.old) × (source.new ≡ source.old) × (clock.new ≡ clock.old) }
@@ -118,13 +123,21 @@ pub fn run<S: Source, H: Host, C: Clock>(
     ensures disk_fault { result ≡ 5 → HasRisen (H.disk host.old).faults (H.disk host.new).faults }
     ensures emit_fault { result ≡ 6 → HasRisen (H.disk host.old).emit_faults (H.disk host.new).emit_faults }
     ensures damaged { result ≡ 7 → Tells (H.disk host.old) → IsValid (seen (H.disk host.old)) → ⊥ }
-    // A folder that isn't valid is never served, and one whose log is damaged is not changed.
+    // Where the log itself is damaged and that is the answer, nothing is changed.
     ensures damage_kept { result ≡ 7 → Tells (H.disk host.old) → is_damaged_from 0 (file_of (H.disk host.old) 1).bytes ≡ true → Same (H.disk host.old) (H.disk host.new) }
     ensures served { result ≢ 2 → result ≢ 3 → result ≢ 5 → result ≢ 7 → Tells (H.disk host.old) → IsValid (seen (H.disk host.old)) }
+    // A folder that isn't valid, whatever the status: nothing is emitted, nothing of the script is taken, and where the log itself
+    // isn't damaged and nothing of it is pending, its records stay.
+    ensures silent { Tells (H.disk host.old) → (IsValid (seen (H.disk host.old)) → ⊥) → IsSilent (H.disk host.old) (H.disk host.new) }
+    ensures unserved { Tells (H.disk host.old) → (IsValid (seen (H.disk host.old)) → ⊥) → (report.new.taken ≡ 0) × (report.new.statements ≡ 0) }
+    ensures records_stay { Tells (H.disk host.old) → (IsValid (seen (H.disk host.old)) → ⊥) → KeepsRecords (H.disk host.old) (H.disk host.new) }
+    // The statuses 0 and 1 come at the source's end alone.
+    ensures ended { result ≤ 1 → IsTrue (S.source source.old).tells → (S.source source.new).left ≡ [] }
     ensures too_long { result ≡ 8 → report.new.taken ≡ 1073741825 }
     ensures reported { IsReported (H.disk host.old) (H.disk host.new) result report.new.stop }
     ensures nothing_reported { (result ≡ 2) ⊎ (result ≡ 7) → (report.new.taken ≡ 0) × (report.new.statements ≡ 0) }
     ensures taken { IsTaken (S.source source.old) (S.source source.new) report.new.taken }
+    ensures at_most { report.new.taken ≤ 1073741825 }
 {
     *report = Report {
         stop: None,

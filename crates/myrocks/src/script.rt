@@ -1,6 +1,6 @@
 //! A whole script.
 
-ghost use Rattle.std.specs.Prelude.{◌≡◌, ℕ, [], IsTrue, OnOk, IfErr};
+ghost use Rattle.std.specs.Prelude.{◌≡◌, ◌≤◌, ℕ, [], IsTrue, OnOk, IfErr};
 ghost use Rattle.myrocks.specs.Serving.{IsServing};
 ghost use Rattle.myrocks.specs.Reading.{ServesScript, IsTaken};
 ghost use Rattle.myrocks.specs.Settled.{early};
@@ -33,6 +33,7 @@ impl Shell {
         ensures serves { ServesScript (S.source source.old) taken.new self.old.server self.new.server (C.clock clock.old) (H.disk host.old) (H.disk host.new) (early result) }
         ensures ended { IsTrue (S.source source.old).tells → OnOk result ((S.source source.new).left ≡ []) }
         ensures taken { IsTaken (S.source source.old) (S.source source.new) taken.new }
+        ensures at_most { taken.new ≤ 1073741825 }
         ensures goes_on { GoesOn (H.disk host.old) (H.disk host.new) }
         ensures cause { IfErr result (IsScriptCause (S.source source.old) (S.source source.new) (H.disk host.old) (H.disk host.new) taken.new) }
     {

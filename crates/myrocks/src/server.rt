@@ -3,10 +3,10 @@
 ghost use Rattle.std.specs.Prelude.{◌≡◌, ℕ, List, [], ◌∷◌, Option, OnOk, IfOk, IfErr, IfSome, true, ◌||◌};
 ghost use Rattle.mr_lists.specs.StandsFor.{StandsFor};
 ghost use Rattle.mr_first.specs.Database.{replay};
-ghost use Rattle.mr_first.specs.CommitForm.{is_formed_change};
+ghost use Rattle.mr_first.specs.Formed.{is_formed_body};
 ghost use Rattle.mr_first.specs.Lawful.{is_lawful_change};
 ghost use Rattle.mr_first.specs.World.{World, commits_at, event_at, outcome_at, world_after, has_error, is_refusal as refusal_of};
-ghost use Rattle.mr_first.specs.declared.tables.Table.{Table};
+ghost use Rattle.mr_spec.specs.declared.world.Table.{Table};
 ghost use Rattle.myrocks.specs.Settled.{Appends, Runs, early};
 ghost use Rattle.myrocks.specs.Serving.{IsReady, IsServing, Stands, IsRead, after_change};
 ghost use Rattle.myrocks.specs.Causes.{GoesOn, IsCausedBy};
@@ -15,17 +15,18 @@ use crate::commit_log::append_commit;
 use crate::emit::emit_all;
 use crate::ending::Ending;
 use mr_base::{Host, Memory};
-use mr_first::{Change, Commit, Outcome, Reply, Statement};
-use mr_gate::GateLog;
+use mr_binlog::Binlog;
+use mr_first::{Outcome, Statement};
 use mr_lists::Tables;
-use mr_plain::reply_text;
+use mr_print::reply_text;
+use mr_types::{Commit, CommitBody, Reply};
 use std::alloc::Global;
 
 /// The tables, the log of their commits, the moment, whether some reply was an error, and how many replies are out.
 #[derive(Drop)]
 pub(crate) struct Server {
     pub(crate) tables: Tables,
-    pub(crate) log: GateLog,
+    pub(crate) log: Binlog,
     pub(crate) moment: u64,
     pub(crate) failed: bool,
     pub(crate) replies: u64,
@@ -54,14 +55,14 @@ fn outcome(alloc: Global, tables: &Tables, statement: Option<Statement>) -> Resu
 fn make_change<H: Host>(
     alloc: Global,
     host: &mut H,
-    log: &mut GateLog,
+    log: &mut Binlog,
     tables: &mut Tables,
     moment: u64,
-    change: Option<Change>,
+    change: Option<CommitBody>,
 ) -> Result<(), Ending>
-    requires ready { IsReady log.old (H.disk host.old) }
-    requires formed { IfSome change (λ c. is_formed_change c ≡ true) }
-    ensures ready { OnOk result (IsReady log.new (H.disk host.new)) }
+    requires ready { IsReady log.old.gate (H.disk host.old) }
+    requires formed { IfSome change (λ c. is_formed_body c ≡ true) }
+    ensures ready { OnOk result (IsReady log.new.gate (H.disk host.new)) }
     ensures tables { OnOk result ((database : List Table) → StandsFor tables.old database → IfSome change (λ c. is_lawful_change database c ≡ true) → StandsFor tables.new (after_change database change)) }
     ensures appends { Appends (H.disk host.old) (H.disk host.new) (commits_at moment change) (early result) }
     ensures goes_on { GoesOn (H.disk host.old) (H.disk host.new) }
@@ -69,10 +70,10 @@ fn make_change<H: Host>(
 {
     match change {
         None => Ok(()),
-        Some(change) => {
-            let commit = Commit { moment, change };
+        Some(body) => {
+            let commit = Commit { moment, body };
             append_commit(alloc, log, host, &commit)?;
-            tables.apply(alloc, commit.change)?;
+            tables.apply(alloc, commit.body)?;
             Ok(())
         }
     }

@@ -11,9 +11,9 @@ invariant-records g l =
     record {
       goes_on : GoesOn (disk l.fn.host) (disk l.host);
       same : Tells (disk l.fn.host) → Same (disk l.fn.host) (disk l.host);
-      within : l.at ≤ l.log.end;
+      within : l.at ≤ l.log.gate.end;
       replaying : Replaying (disk l.fn.host) l.at l.tables l.moment;
     }
 
 abbrev pub decreases-records : goal.decreases-records
-decreases-records g l = l.log.end - l.at
+decreases-records g l = l.log.gate.end - l.at

@@ -1,6 +1,7 @@
-use Rattle.std.proofs.Common.{sym, ◌∙◌}
-use Rattle.myrocks.proofs.Concluding.{headline_done, headline_early, reported_none}
+use Rattle.std.proofs.Common.{sym, ◌∙◌, arith}
+use Rattle.myrocks.proofs.Concluding.{headline_done, headline_early, reported_none, status_high}
 use Rattle.myrocks.proofs.Whole.{damaged_invalid, damage_kept, low_status}
+use Rattle.myrocks.proofs.Replaying.{records_untouched}
 use Rattle.myrocks.proofs.run.run.Goals as goal
 
 pub returns-in-Ok-clause-headline : goal.returns-in-Ok-clause-headline
@@ -23,3 +24,9 @@ returns-in-Err-clause-damaged g c = λ is tells valid. damaged_invalid (g.S.Sour
 
 pub returns-in-Err-clause-damage_kept : goal.returns-in-Err-clause-damage_kept
 returns-in-Err-clause-damage_kept g c = λ is tells damaged. damage_kept (g.H.Disk.disk c.args.host.now) (g.H.Disk.disk c.run_all.new.host) c.in-Err.ending (let e = c.status_of.ensures in sym e ∙ is) c.in-Err.ensures.kept tells damaged
+
+pub returns-in-Err-clause-ended : goal.returns-in-Err-clause-ended
+returns-in-Err-clause-ended g c = λ low tells. absurd (omega (arith, low, c.status_of.ensures, status_high c.in-Err.ending))
+
+pub returns-then-not-is_form-clause-records_stay : goal.returns-then-not-is_form-clause-records_stay
+returns-then-not-is_form-clause-records_stay g c = λ tells invalid. records_untouched (g.H.Disk.disk c.args.host.now)

@@ -34,3 +34,22 @@ pub returns-in_err-answer-clause-kept : goal.returns-in_err-answer-clause-kept
 returns-in_err-answer-clause-kept g c =
     err_is c.from_residual-in_err-answer.result c.in_err-answer.field-0.0 (KeepsDamaged (g.H.Disk.disk c.args.host.now) (g.H.Disk.disk c.serve_all-answer.new.host)) c.from_residual-in_err-answer.ensures.1
     (serving_keeps (g.S.Source.source c.args.source.now) (g.S.Source.source c.serve_all-answer.new.source) (g.H.Disk.disk c.args.host.now) (g.H.Disk.disk c.open.new.host) (g.H.Disk.disk c.serve_all-answer.new.host) c.serve_all-answer.new.taken c.in_err-answer.field-0.0 c.in_err-answer.ensures.cause)
+
+-- a folder that was opened is valid
+pub returns-in_err-answer-clause-silent : goal.returns-in_err-answer-clause-silent
+returns-in_err-answer-clause-silent g c = λ tells invalid. absurd (invalid (c.in_ok-open.ensures.valid tells))
+
+pub returns-clause-silent : goal.returns-clause-silent
+returns-clause-silent g c = λ tells invalid. absurd (invalid (c.in_ok-open.ensures.valid tells))
+
+pub returns-in_err-answer-clause-unserved : goal.returns-in_err-answer-clause-unserved
+returns-in_err-answer-clause-unserved g c = λ tells invalid. absurd (invalid (c.in_ok-open.ensures.valid tells))
+
+pub returns-clause-unserved : goal.returns-clause-unserved
+returns-clause-unserved g c = λ tells invalid. absurd (invalid (c.in_ok-open.ensures.valid tells))
+
+pub returns-in_err-answer-clause-records_stay : goal.returns-in_err-answer-clause-records_stay
+returns-in_err-answer-clause-records_stay g c = λ tells invalid. absurd (invalid (c.in_ok-open.ensures.valid tells))
+
+pub returns-clause-records_stay : goal.returns-clause-records_stay
+returns-clause-records_stay g c = λ tells invalid. absurd (invalid (c.in_ok-open.ensures.valid tells))

@@ -3,7 +3,7 @@ use Rattle.mr_base.proofs.Counting.{emit_tells}
 use Rattle.mr_lists.specs.StandsFor.{StandsFor}
 use Rattle.mr_first.specs.Database.{replay}
 use Rattle.mr_first.specs.World.{event_at, world_after}
-use Rattle.mr_first.specs.declared.tables.Table.{Table}
+use Rattle.mr_spec.specs.declared.world.Table.{Table}
 use Rattle.mr_base.specs.declared.stop.Stop.TheVariants.{Memory}
 use Rattle.myrocks.specs.declared.ending.Ending.TheVariants.{Stopped, EmitFault}
 use Rattle.myrocks.proofs.Appending.{goes_tells, ready_shown}
@@ -65,7 +65,7 @@ pub returns-clause-serving : goal.returns-clause-serving
 returns-clause-serving g c =
     let world = c.requires.serving.world in
     record {
-      log = ready_shown _ _ c.make_change.new.log _ c.in_ok-emit_all.ensures.counts c.in_ok-emit_all.ensures.any_moment c.in_ok-make_change.ensures.ready;
+      log = ready_shown _ _ c.make_change.new.log.gate _ c.in_ok-emit_all.ensures.counts c.in_ok-emit_all.ensures.any_moment c.in_ok-make_change.ensures.ready;
       world = world_after world c.args.statement c.args.clock_value;
       stands = let s = c.requires.serving.stands in
           let outcome_is = c.in_ok-outcome.ensures world s.tables in

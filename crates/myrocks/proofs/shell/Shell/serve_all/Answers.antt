@@ -109,3 +109,6 @@ returns-clause-serves g c = script_too_long _ _ _ _ _ _ _ _ _ c.loop-taken.taken
 
 pub returns-clause-taken : goal.returns-clause-taken
 returns-clause-taken g c = is_taken _ _ _ _ _ _ _ _ _ _ c.loop-taken.invariant.so_far
+
+pub returns-in_err-feed_all-clause-at_most : goal.returns-in_err-feed_all-clause-at_most
+returns-in_err-feed_all-clause-at_most g c = omega (arith, c.loop-taken.invariant.bound, c.in_ok-count.ensures.fits, length-take c.min-room.result c.loop-taken.buffer, c.min-room.ensures)
