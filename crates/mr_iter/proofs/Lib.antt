@@ -6,3 +6,5 @@ mod SeekLaws
 mod MergeSteps
 mod Runs
 mod Steady
+mod Spent
+mod Newest

@@ -1,10 +1,8 @@
 -- A run of calls on one cursor: x is the cursor at the start, y the one now, z the one after the next call.
-use Rattle.std.proofs.Common.{◌≡◌, ℕ, ◌≤◌, IsTrue, Bool, Option, sym, ◌∙◌, subst, arith, List}
+use Rattle.std.proofs.Common.{◌≡◌, ℕ, IsTrue, Bool, Option, sym, ◌∙◌, subst, arith, List}
 use Rattle.mr_base.specs.Disk.{State, Tells, Image, seen}
 use Rattle.mr_base.specs.Calls.{Same}
-use Rattle.mr_base.specs.declared.stop.Stop.{Stop}
-use Rattle.mr_base.specs.declared.stop.Stop.TheVariants.{Memory, Disk, Full, Damaged}
-use Rattle.mr_iter.specs.Cursors.{CursorState, SameList, CountsStep, MayStop}
+use Rattle.mr_iter.specs.Cursors.{CursorState, SameList, CountsStep}
 use Rattle.mr_iter.specs.Snapshots.{Passes}
 use Rattle.mr_iter.proofs.SeekLaws.{image_same}
 use Rattle.mr_iter.proofs.Steps.{counts-then, counts-within}
@@ -35,12 +33,6 @@ module _ {K : Type 0} (whole : K → Image → Type 0) (start mid new : State) (
 
   pub run_stays : (Tells mid → whole y (seen mid) → whole z (seen mid)) → Tells start → whole x (seen start) → whole z (seen start)
   run_stays next told is = subst (whole z) (image_same start mid (same told)) (next (told_on told) (whole_now told is))
-
-  pub run_stop : start.faults ≤ mid.faults → (stop : Stop) → MayStop (whole y (seen mid)) mid new stop → MayStop (whole x (seen start)) start new stop
-  run_stop later Memory may = may
-  run_stop later Disk may = omega arith
-  run_stop later (Full what at limit) may = may
-  run_stop later (Damaged file at) may = λ told is. may (told_on told) (whole_now told is)
 
   -- a step over versions, said of the files as they were at the start
   pub run_passes : (number : ℕ) (here : Bool) (skip skip' : Option (List ℕ)) (old now : CursorState) → (Tells mid → whole y (seen mid) → Passes number here skip skip' old now (seen mid)) → Tells start → whole x (seen start) → Passes number here skip skip' old now (seen start)

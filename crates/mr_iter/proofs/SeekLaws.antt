@@ -1,5 +1,5 @@
 -- What one call on a child says of all.
-use Rattle.std.proofs.Common.{◌≡◌, ℕ, ◌+◌, ◌<◌, ◌≤◌, IsTrue, List, length, get_or, set, take, refl, sym, ap, subst, arith}
+use Rattle.std.proofs.Common.{◌≡◌, ℕ, ◌+◌, ◌<◌, ◌≤◌, IsTrue, List, length, get_or, set, take, refl, sym, ◌∙◌, ap, subst, arith}
 use Rattle.mr_base.specs.Disk.{State, Moment, Tells, Image, seen}
 use Rattle.mr_base.specs.Calls.{Counts, Same}
 use Rattle.mr_base.proofs.Moments.{same_present, same_then}
@@ -12,6 +12,18 @@ use Rattle.mr_iter.proofs.Steps.{DoneTo, counts-then, counts-within, sum-take_mo
 
 pub image_same : (old new : State) → Same old new → seen new ≡ seen old
 image_same old new same = ap {B = Image} (λ (m : Moment) (file : ℕ). (m.files file).bytes) (same_present old new same)
+
+-- a stop of a later call, as one since the start
+pub stop_since : (start mid new : State) → mid.tells ≡ start.tells → (Tells start → Same start mid) → start.faults ≤ mid.faults → (there all : Image → ℕ → ℕ → Type 0) → ((image : Image) (file at : ℕ) → there image file at → all image file at) →
+    (stop : Stop) → MayStop there mid new stop → MayStop all start new stop
+stop_since start mid new tells same later there all so Memory may = may
+stop_since start mid new tells same later there all so Disk may = omega arith
+stop_since start mid new tells same later there all so (Full what at limit) may = may
+stop_since start mid new tells same later there all so (Damaged file at) may = record {
+  image = may.image;
+  told = λ told. may.told (subst (λ b. IsTrue b) (sym tells) told) ∙ image_same start mid (same told);
+  offence = so may.image file at may.offence;
+}
 
 pub same_list : (s : CursorState) → SameList s s
 same_list s = record { direction = refl; files = refl; versions = λ image. refl; distinct = λ image. refl; reads_to = λ image key place. refl; asked_to = λ image key place. refl }
@@ -36,12 +48,6 @@ module _ {K : Type 0} (f : K → CursorState) (whole : K → Image → Type 0) (
 
   pub same_on : (Tells mid → Same mid new) → Tells start → Same start new
   same_on then told = same_then start mid new (same told) (then (tells_on told))
-
-  pub stop_of : (x : K) (all : Type 0) → (all → whole x (seen start)) → start.faults ≤ mid.faults → (stop : Stop) → MayStop (whole x (seen mid)) mid new stop → MayStop all start new stop
-  stop_of x all so later Memory may = may
-  stop_of x all so later Disk may = omega arith
-  stop_of x all so later (Full what at limit) may = may
-  stop_of x all so later (Damaged file at) may = λ told is. may (tells_on told) (subst (whole x) (sym (image_same start mid (same told))) (so is))
 
 abbrev pub SoughtOne : {K : Type 0} → (K → CursorState) → (K → Image → Type 0) → (K → Image → Type 0) → List ℕ → State → K → K → Type 0
 SoughtOne f whole steady key start v w = KeepsChild f whole (seen start) (Tells start) v w × FoundChild f whole steady (seen start) (Tells start) key v w

@@ -1,9 +1,9 @@
 -- Many cursors, one after another.
-use Rattle.std.proofs.Common.{◌≡◌, ℕ, ◌+◌, ◌<◌, ◌≤◌, List, [], ◌∷◌, length, get_or, set, take, suc, zero, sym, ◌∙◌, ap, subst, arith, add-one}
+use Rattle.std.proofs.Common.{◌≡◌, ℕ, ◌+◌, ◌<◌, ◌≤◌, List, [], ◌∷◌, length, get_or, set, take, suc, zero, sym, ◌∙◌, ap, subst, inl, inr, arith, add-one}
 use Rattle.std.specs.List.{AllByRecursion}
 use Rattle.mr_base.specs.Disk.{State}
 use Rattle.mr_base.specs.Calls.{Counts}
-use Rattle.mr_iter.specs.Children.{Zipped, total}
+use Rattle.mr_iter.specs.Children.{Zipped, AnyOf, total}
 
 module _ {K : Type 0} where
   -- the first n elements of ys are in R to those of xs, and the others are those of xs
@@ -114,3 +114,16 @@ module _ {K : Type 0} where
   each-of P [] n x lt is all = absurd (omega arith)
   each-of P (w ∷ ws) zero x lt is all = subst P (sym is) all.0
   each-of P (w ∷ ws) (suc n) x lt is all = each-of P ws n x (omega arith) is all.1
+
+  pub any-of : (P : K → Type 0) (xs : List K) (n : ℕ) (x : K) → n < length xs → x ≡ get_or xs n x → P x → AnyOf P xs
+  any-of P [] n x lt is here = absurd (omega arith)
+  any-of P (w ∷ ws) zero x lt is here = inl (subst P is here)
+  any-of P (w ∷ ws) (suc n) x lt is here = inr (any-of P ws n x (omega arith) is here)
+
+  -- of the one that changed it holds only if it did before
+  pub any-set : (P : K → Type 0) (xs : List K) (n : ℕ) (x y : K) → n < length xs → x ≡ get_or xs n x → (P y → P x) → AnyOf P (set xs n y) → AnyOf P xs
+  any-set P [] n x y lt is so any = any
+  any-set P (w ∷ ws) zero x y lt is so (inl here) = inl (subst P is (so here))
+  any-set P (w ∷ ws) zero x y lt is so (inr later) = inr later
+  any-set P (w ∷ ws) (suc n) x y lt is so (inl here) = inl here
+  any-set P (w ∷ ws) (suc n) x y lt is so (inr later) = inr (any-set P ws n x y (omega arith) is so later)

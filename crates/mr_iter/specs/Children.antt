@@ -1,5 +1,5 @@
 -- What a call does to each of many cursors.
-use Rattle.std.specs.Prelude.{◌≡◌, IsTrue, ℕ, ◌+◌, List, [], ◌∷◌}
+use Rattle.std.specs.Prelude.{◌≡◌, ◌⊎◌, IsTrue, ℕ, ◌+◌, List, [], ◌∷◌}
 use Rattle.mr_iter.specs.Versions.{from_key}
 use Rattle.mr_iter.specs.Cursors.{CursorState, SameList, left}
 use Rattle.mr_base.specs.Disk.{Image}
@@ -10,6 +10,11 @@ Zipped R [] [] = Unit {0}
 Zipped R [] (y ∷ ys) = ⊥
 Zipped R (x ∷ xs) [] = ⊥
 Zipped R (x ∷ xs) (y ∷ ys) = R x y × Zipped R xs ys
+
+-- P of one element at least
+abbrev pub AnyOf : {X : Type 0} → (X → Type 0) → List X → Type 0
+AnyOf P [] = ⊥
+AnyOf P (x ∷ xs) = P x ⊎ AnyOf P xs
 
 -- a number of each, together
 abbrev pub total : {X : Type 0} → (X → ℕ) → List X → ℕ

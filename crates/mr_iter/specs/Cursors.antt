@@ -1,7 +1,7 @@
 -- What a cursor means.
 use Rattle.std.specs.Prelude.{◌≡◌, ℕ, ◌-◌, ◌≤◌, Bool, drop, List, [], ◌∷◌, Option, Some, None}
 use Rattle.std.specs.List.{AllByRecursion}
-use Rattle.mr_base.specs.Disk.{State, Tells, Image, HasRisen}
+use Rattle.mr_base.specs.Disk.{State, Tells, Image, HasRisen, seen}
 use Rattle.mr_base.specs.Calls.{Counts}
 use Rattle.mr_base.specs.declared.stop.Stop.{Stop}
 use Rattle.mr_base.specs.declared.stop.Stop.TheVariants.{Memory, Disk, Full, Damaged}
@@ -47,18 +47,32 @@ pub record SameList (old new : CursorState) : Type 0 where
 abbrev pub SameFiles : List ℕ → Image → Image → Type 0
 SameFiles files i j = AllByRecursion (λ file. i file ≡ j file) files
 
+-- the cursor says the same by either of two images
+pub record SaysSame (s : CursorState) (i j : Image) : Type 0 where
+  pub versions : s.versions i ≡ s.versions j
+  pub rest : s.rest i ≡ s.rest j
+  pub distinct : s.distinct i ≡ s.distinct j
+  pub reads_to : (key : List ℕ) (place : Option Version) → s.reads_to i key place ≡ s.reads_to j key place
+  pub asked_to : (key : List ℕ) (place : Option Version) → s.asked_to i key place ≡ s.asked_to j key place
+
 -- what the disk counts is at most what the cursor counts
 pub record CountsStep (before after : CursorState) (old new : State) : Type 0 where
   pub reads : before.reads ≤ after.reads
   pub asked : before.asked ≤ after.asked
   pub disk : Counts (after.reads - before.reads) (after.asked - before.asked) 0 old new
 
--- a stop of a cursor and its cause; damage only where the cursor isn't whole
-abbrev pub MayStop : Type 0 → State → State → Stop → Type 0
-MayStop whole old new Memory = Unit {0}
-MayStop whole old new Disk = HasRisen old.faults new.faults
-MayStop whole old new (Full what at limit) = ⊥
-MayStop whole old new (Damaged file at) = Tells old → whole → ⊥
+-- this file and place are an offence in an image; where the disk tells its contents, that image is what a read gives
+pub record IsDamage (offends : Image → ℕ → ℕ → Type 0) (old : State) (file at : ℕ) : Type 0 where
+  pub image : Image
+  pub told : Tells old → image ≡ seen old
+  pub offence : offends image file at
+
+-- a stop of a cursor and its cause; damage only at an offence of the cursor's files
+abbrev pub MayStop : (Image → ℕ → ℕ → Type 0) → State → State → Stop → Type 0
+MayStop offends old new Memory = Unit {0}
+MayStop offends old new Disk = HasRisen old.faults new.faults
+MayStop offends old new (Full what at limit) = ⊥
+MayStop offends old new (Damaged file at) = IsDamage offends old file at
 
 -- what is left is an end of its list
 pub record IsInPlace (s : CursorState) (image : Image) : Type 0 where
@@ -69,6 +83,11 @@ pub record IsInPlace (s : CursorState) (image : Image) : Type 0 where
 pub record IsWithinBound (s : CursorState) (image : Image) (key : List ℕ) : Type 0 where
   pub reads : s.reads ≤ s.reads_to image key s.current
   pub asked : s.asked ≤ s.asked_to image key s.current
+
+-- what it read since its last seek, where that was for this key, is at most what it may have read up to the end
+pub record IsWithinEnd (s : CursorState) (image : Image) (key : List ℕ) : Type 0 where
+  pub reads : s.reads ≤ s.reads_to image key None
+  pub asked : s.asked ≤ s.asked_to image key None
 
 -- what it may have read up to a version is at most what it may have read up to the end
 pub record GrowsToEnd (s : CursorState) (image : Image) (key : List ℕ) (place : Option Version) : Type 0 where

@@ -9,3 +9,4 @@ pub mod SnapshotLaws
 pub mod RunOuts
 pub mod Places
 pub mod MergePlaces
+pub mod MergeFiles

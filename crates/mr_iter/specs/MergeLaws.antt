@@ -14,7 +14,7 @@ use Rattle.mr_base.specs.declared.stop.Direction.TheVariants.{Forward, Reverse}
 use Rattle.mr_iter.specs.Versions.{Version, version_cmp, joined, merged, in_order, IsInOrder, IsLeast, others}
 use Rattle.mr_iter.specs.Order.{version_total, merged-next, IsInOrder-in_order}
 use Rattle.mr_iter.specs.Children.{total}
-use Rattle.mr_iter.specs.Cursors.{CursorState, left, with_current, SameFiles}
+use Rattle.mr_iter.specs.Cursors.{CursorState, left, with_current}
 use Rattle.mr_base.specs.Disk.{Image}
 use Rattle.mr_iter.specs.Merging.{current_at, lefts, lists, rank_cmp, precedes, IsRanked, IsQueue, HasAll, IsMergeQueue, merge_state, IsOneDirection}
 
@@ -157,29 +157,6 @@ module _ {K : Type 0} (f : K → CursorState) (whole : K → Image → Type 0) w
     subst (IsInOrder (version_cmp d)) (sym (left-merge d (map f xs) image j js queue (each_ordered law d xs image one all))) (IsInOrder-in_order (version_cmp d) (version_total d) (joined (lefts (map f xs) image))),
     IsInOrder-in_order (version_cmp d) (version_total d) (joined (lists (map f xs) image)),
   )
-
-  pub merge_by_files : ((c : K) (i j : Image) → SameFiles (f c).files i j → whole c i → whole c j × ((f c).versions i ≡ (f c).versions j) × ((f c).rest i ≡ (f c).rest j)) →
-      (d : Direction) (xs : List K) (order : List ℕ) (i j : Image) → SameFiles (merge_state d order (map f xs)).files i j → AllByRecursion (λ c. whole c i) xs →
-      AllByRecursion (λ c. whole c j) xs × ((merge_state d order (map f xs)).versions i ≡ (merge_state d order (map f xs)).versions j) × ((merge_state d order (map f xs)).rest i ≡ (merge_state d order (map f xs)).rest j)
-  merge_by_files law d xs order i j same all =
-      let each = go xs same all in
-      (each.0, ap (merged (version_cmp d)) each.1, ap (λ vss. others (merged (version_cmp d) vss)) each.2)
-    where
-      front : {X : Type 0} (P : X → Type 0) (ys zs : List X) → AllByRecursion P (ys ++ zs) → AllByRecursion P ys × AllByRecursion P zs
-      front P [] zs all = (tt, all)
-      front P (y ∷ ys) zs all = let both = front P ys zs all.1 in ((all.0, both.0), both.1)
-
-      go : (xs : List K) → AllByRecursion (λ file. i file ≡ j file) (joined (map (λ (c : CursorState). c.files) (map f xs))) → AllByRecursion (λ c. whole c i) xs → AllByRecursion (λ c. whole c j) xs × (lists (map f xs) i ≡ lists (map f xs) j) × (lefts (map f xs) i ≡ lefts (map f xs) j)
-      go [] same all = (tt, refl, refl)
-      go (x ∷ xs) same all =
-          let parts = front (λ file. i file ≡ j file) (f x).files (joined (map (λ (c : CursorState). c.files) (map f xs))) same in
-          let here = law x i j parts.0 all.0 in
-          let later = go xs parts.1 all.1 in
-          let el : left (f x) i ≡ left (f x) j = ap (with_current (f x).current) here.2 in
-          let e1 = here.1 in
-          let e2 = later.1 in
-          let e3 = later.2 in
-          ((here.0, later.0), cc, cc)
 
 -- steps are left where it stands on a version
 pub merge_going : {K : Type 0} (f : K → CursorState) → ((c : K) → is_some (f c).current ≡ true → 0 < (f c).steps) → (d : Direction) (xs : List K) (order : List ℕ) → is_some (merge_state d order (map f xs)).current ≡ true → 0 < (merge_state d order (map f xs)).steps

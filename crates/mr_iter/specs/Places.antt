@@ -11,7 +11,7 @@ use Rattle.mr_base.specs.Disk.{Image}
 use Rattle.mr_base.specs.declared.stop.Direction.{Direction}
 use Rattle.mr_iter.specs.Versions.{Version, key_cmp, version_cmp, IsAtFront, IsInOrder, place_in, in_order, joined, merged, from_key, first, is_strict, first_at}
 use Rattle.mr_iter.specs.Order.{key_total, version_total, by_key, not_before}
-use Rattle.mr_iter.specs.Cursors.{CursorState, left, with_current}
+use Rattle.mr_iter.specs.Cursors.{CursorState, SaysSame, IsInPlace, left, with_current}
 
 pub first_left : (s : CursorState) (image : Image) → first (left s image) ≡ s.current
 first_left s image = go s.current
@@ -19,6 +19,13 @@ first_left s image = go s.current
     go : (o : Option Version) → first (with_current o (s.rest image)) ≡ o
     go None = refl
     go (Some v) = refl
+
+pub left_by : (s : CursorState) (i j : Image) → SaysSame s i j → left s i ≡ left s j
+left_by s i j same = ap (with_current s.current) same.rest
+
+-- it stands in its list by either image
+pub in_place_by : (s : CursorState) (i j : Image) → SaysSame s i j → IsInPlace s i → IsInPlace s j
+in_place_by s i j same place = record { passed = place.passed; rest = sym (left_by s i j same) ∙ place.rest ∙ ap (drop place.passed) same.versions }
 
 -- ---- ends of a list
 

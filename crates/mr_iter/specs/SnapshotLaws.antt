@@ -11,8 +11,8 @@ use Rattle.mr_base.specs.declared.stop.Direction.{Direction}
 use Rattle.mr_base.specs.declared.stop.Direction.TheVariants.{Forward, Reverse}
 use Rattle.mr_iter.specs.Versions.{Version, key_cmp, version_cmp, IsInOrder, IsAtFront, from_key}
 use Rattle.mr_iter.specs.Order.{key_total, by_key, not_before}
-use Rattle.mr_iter.specs.Cursors.{CursorState, IsInPlace, IsWithinBound, GrowsToEnd, left, with_current}
-use Rattle.mr_iter.specs.Places.{from_key-drop, drop_tail}
+use Rattle.mr_iter.specs.Cursors.{CursorState, SaysSame, IsInPlace, IsWithinBound, GrowsToEnd, left, with_current}
+use Rattle.mr_iter.specs.Places.{from_key-drop, drop_tail, in_place_by}
 use Rattle.mr_base.specs.Disk.{Image}
 use Rattle.mr_iter.specs.Snapshots.{shown, key_of, is_skipped, snapshot_state, each-shown, IsInOrder-shown, IsUpward, NoneSkipped, filter-shown}
 
@@ -25,9 +25,20 @@ snapshot_in_order number placed s image both = (by_place placed s.current both.0
     by_place true None all = tt
     by_place true (Some v) all = (each-shown _ number (Some v.key) (s.rest image) all.0, IsInOrder-shown s.direction number (Some v.key) (s.rest image) all.1)
 
-pub snapshot_by_files : {W : Type 0} (number : ℕ) (placed : Bool) (s : CursorState) (i j : Image) → W × (s.versions i ≡ s.versions j) × (s.rest i ≡ s.rest j) →
-    W × ((snapshot_state number placed s).versions i ≡ (snapshot_state number placed s).versions j) × ((snapshot_state number placed s).rest i ≡ (snapshot_state number placed s).rest j)
-snapshot_by_files number placed s i j same = (same.0, ap (shown number None) same.1, ap (shown number (key_of s.current)) same.2)
+snapshot_says : (number : ℕ) (placed : Bool) (s : CursorState) (i j : Image) → SaysSame s i j → SaysSame (snapshot_state number placed s) i j
+snapshot_says number placed s i j same = record {
+  versions = ap (shown number None) same.versions;
+  rest = ap (shown number (key_of s.current)) same.rest;
+  distinct = same.distinct;
+  reads_to = same.reads_to;
+  asked_to = same.asked_to;
+}
+
+pub snapshot_by_files : {W S T : Type 0} (number : ℕ) (placed : Bool) (s : CursorState) (i j : Image) → W × (S → T) × SaysSame s i j →
+    W × (S × IsInPlace (snapshot_state number placed s) i → T × IsInPlace (snapshot_state number placed s) j) × SaysSame (snapshot_state number placed s) i j
+snapshot_by_files number placed s i j same =
+    let says = snapshot_says number placed s i j same.2 in
+    (same.0, λ stands. (same.1 stands.0, in_place_by (snapshot_state number placed s) i j says stands.1), says)
 
 -- a key that isn't before another one
 abbrev pub passes : Direction → List ℕ → List ℕ → Bool

@@ -1,5 +1,5 @@
 -- The versions that stand at a sequence number.
-use Rattle.std.specs.Prelude.{◌≡◌, ℕ, Bool, true, false, cond, ◌||◌, List, [], ◌∷◌, Option, Some, None, is_some, nat_lt, filter, refl}
+use Rattle.std.specs.Prelude.{◌≡◌, ℕ, ◌≤◌, Bool, true, false, cond, ◌||◌, List, [], ◌∷◌, Option, Some, None, is_some, nat_lt, filter, refl}
 use Rattle.std.proofs.Common.{sym, ◌∙◌, ap, inl, inr}
 use Rattle.std.specs.List.{AllByRecursion}
 use Rattle.std.specs.Cmp.Lexicographic.{slice_cmp}
@@ -9,6 +9,7 @@ use Rattle.mr_base.specs.declared.stop.Direction.{Direction}
 use Rattle.mr_iter.specs.Versions.{Version, version_cmp, IsInOrder}
 use Rattle.mr_iter.specs.Cursors.{CursorState, left, with_current}
 use Rattle.mr_base.specs.Disk.{Image}
+use Rattle.mr_iter.specs.Children.{AnyOf}
 use Rattle.mr_iter.specs.declared.snapshot.Skip.{Skip}
 
 -- this key is the one whose older versions are left out
@@ -27,6 +28,16 @@ shown number skip (v ∷ vs) = cond (is_hidden number skip v) (shown number skip
 
 abbrev pub at_snapshot : ℕ → List Version → List Version
 at_snapshot number vs = shown number None vs
+
+-- the version is one of these
+abbrev pub IsAmong : Version → List Version → Type 0
+IsAmong v vs = AnyOf (λ (w : Version). w ≡ v) vs
+
+-- it is a put that isn't past the number, and of these none of its key that isn't past the number is newer
+pub record IsNewest (number : ℕ) (vs : List Version) (v : Version) : Type 0 where
+  pub put : is_some v.put ≡ true
+  pub upto : v.sequence ≤ number
+  pub newest : AllByRecursion (λ (w : Version). w.key ≡ v.key → w.sequence ≤ number → w.sequence ≤ v.sequence) vs
 
 abbrev pub key_of : Option Version → Option (List ℕ)
 key_of None = None

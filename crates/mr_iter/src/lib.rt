@@ -3,6 +3,7 @@
 
 mod children;
 mod cursor;
+mod laws;
 mod merge;
 mod order;
 mod queue;
@@ -10,6 +11,7 @@ mod run;
 mod snapshot;
 
 pub use cursor::{Cursor, Listed};
+pub use laws::views_have_the_newest;
 pub use merge::Merge;
 pub use order::compare_keys;
 pub use run::{Filter, RunInfo, RunOut};

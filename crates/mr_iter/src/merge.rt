@@ -2,10 +2,12 @@
 ghost use Rattle.std.specs.Prelude.{◌≡◌, ◌<◌, ◌≤◌, ◌+◌, ℕ, [], IsTrue, IsSome, IfOk, OnOk, length, map, None};
 ghost use Rattle.std.specs.List.{AllByRecursion};
 ghost use Rattle.mr_iter.specs.Cursors.{CursorState};
+ghost use Rattle.mr_iter.specs.Children.{AnyOf};
 ghost use Rattle.mr_base.specs.Disk.{Image};
 ghost use Rattle.mr_iter.specs.Merging.{merge_state, first_of, IsMergeQueue, IsOneDirection};
 ghost use Rattle.mr_iter.specs.MergePlaces.{IsMergeSteady, merge_costs, merge_to_end};
-ghost use Rattle.mr_iter.specs.MergeLaws.{IsMergeQueue-prop, IsOneDirection-prop, merge_in_order, merge_by_files, merge_going};
+ghost use Rattle.mr_iter.specs.MergeFiles.{merge_not_whole, merge_by_files, merge_offends_by_files};
+ghost use Rattle.mr_iter.specs.MergeLaws.{IsMergeQueue-prop, IsOneDirection-prop, merge_in_order, merge_going};
 
 use crate::children::seek_all;
 use crate::cursor::{Cursor, Listed};
@@ -24,10 +26,13 @@ pub struct Merge<C: Listed> {
 
 impl<C: Listed> Listed for Merge<C> {
     ghost use Rattle.std.specs.List.{AllByRecursion};
+    ghost use Rattle.mr_iter.specs.Children.{AnyOf};
 
     ghost cursor = { λ m. merge_state m.direction m.order.items (map C.cursor m.children.items) };
 
     ghost whole = { λ m image. AllByRecursion (λ c. C.whole c image) m.children.items };
+
+    ghost offends = { λ m image file at. AnyOf (λ c. C.offends c image file at) m.children.items };
 
     ghost steady = { λ m image. IsMergeSteady C.cursor C.steady m.direction m.children.items m.order.items image };
 
@@ -51,9 +56,13 @@ impl<C: Listed> Listed for Merge<C> {
         front::<C>(&self.children, &self.order).is_put()
     }
 
+    ghost not_whole = { λ m image file at any whole. merge_not_whole C.cursor C.whole C.offends C.not_whole m.children.items image file at any whole };
+
     ghost in_order = { λ m image whole. merge_in_order C.cursor C.whole C.in_order m.direction m.children.items m.order.items image m.one_direction m.queue whole };
 
-    ghost by_files = { λ m i j same whole. merge_by_files C.cursor C.whole C.by_files m.direction m.children.items m.order.items i j same whole };
+    ghost by_files = { λ m i j same whole. merge_by_files C.cursor C.whole C.steady C.by_files m.direction i j m.order.items m.children.items same whole };
+
+    ghost offends_by_files = { λ m i j file at same any. merge_offends_by_files C.cursor C.whole C.offends C.offends_by_files m.direction m.order.items m.children.items i j file at same any };
 
     ghost in_place = { λ m image whole steady. steady.place };
 
@@ -69,6 +78,7 @@ impl<C: Listed> Merge<C> {
         requires { IsOneDirection direction (map C.cursor children.items) }
         ensures state { IfOk result (λ m. ⟦<Merge<C> as Listed>⟧.cursor m ≡ merge_state direction [] (map C.cursor children.items)) }
         ensures whole { (image : Image) → AllByRecursion (λ c. C.whole c image) children.items → IfOk result (λ m. ⟦<Merge<C> as Listed>⟧.whole m image) }
+        ensures offends { (image : Image) (file at : ℕ) → IfOk result (λ m. ⟦<Merge<C> as Listed>⟧.offends m image file at → AnyOf (λ c. C.offends c image file at) children.items) }
     {
         let order = SmallVec::new(*children.allocator());
         Ok(Merge {

@@ -1,7 +1,7 @@
 //! What a merge of runs is given: a test of what is kept, and a place for new runs.
 ghost use Rattle.std.specs.Prelude.{◌≡◌, ◌<◌, ◌+◌, ◌-◌, ◌^◌, ℕ, List, Bool, Some, None, [], min, IsSome, IfSome, IfErr, IfOk, OnOk, OnErr};
 ghost use Rattle.std.specs.Option.{option_map};
-ghost use Rattle.mr_base.specs.Disk.{Tells, Image, seen, file_of, IsAtRest};
+ghost use Rattle.mr_base.specs.Disk.{Tells, Image, File, seen, file_of, IsAtRest};
 ghost use Rattle.mr_base.specs.Calls.{Counts};
 ghost use Rattle.mr_base.specs.declared.stop.Direction.{Direction};
 ghost use Rattle.mr_iter.specs.Versions.{Version, IsInOrder, version_cmp, as_version};
@@ -38,12 +38,16 @@ pub trait RunOut<D: Disk> {
     /// Bytes are a run of one list at the most, and the number is that of its entries.
     ghost one_run: { (d : Direction) (n m : ℕ) (bytes : List ℕ) (vs ws : List Version) → run d n bytes vs → run d m bytes ws → (n ≡ m) × (vs ≡ ws) };
 
+    /// Whether this file is as its last call left it. A run goes on only where it is.
+    ghost stands: { Self → File → Type 0 };
+
     /// Begins a run in the file with this number. Nothing is touched before the first `add`.
     fn begin(&mut self, file: u64)
         ensures direction { (out self.new).direction ≡ (out self.old).direction }
         ensures file { (out self.new).file ≡ Some file }
         ensures empty { (image : Image) → (out self.new).added image ≡ [] }
-        ensures bytes { (out self.new).bytes ≡ 0 };
+        ensures bytes { (out self.new).bytes ≡ 0 }
+        ensures stands { (f : File) → stands self.new f };
 
     /// Adds a version; `put` is None for a deletion. Takes memory. After an error a run has to be begun anew.
     fn add(
@@ -53,7 +57,8 @@ pub trait RunOut<D: Disk> {
         sequence: u64,
         put: Option<&[u8]>,
     ) -> Result<(), Stop>
-        requires { IsSome (out self.old).file }
+        requires begun { IsSome (out self.old).file }
+        requires stands { Tells (D.disk disk.old) → IfSome (out self.old).file (λ f. stands self.old (file_of (D.disk disk.old) f)) }
         ensures direction { (out self.new).direction ≡ (out self.old).direction }
         ensures file { OnOk result ((out self.new).file ≡ (out self.old).file) }
         ensures closed { OnErr result ((out self.new).file ≡ None) }
@@ -61,7 +66,8 @@ pub trait RunOut<D: Disk> {
         ensures others { Tells (D.disk disk.old) → IfSome (out self.old).file (λ f. KeepsOthers f (D.disk disk.old) (D.disk disk.new)) }
         ensures stops { IfErr result (MayFail (D.disk disk.old) (D.disk disk.new)) }
         ensures bytes { OnOk result ((out self.new).bytes ≡ (out self.old).bytes + entry_bytes (as_version key.now sequence (option_map (λ v. v.now) put.entry))) }
-        ensures added { Tells (D.disk disk.old) → FitsBehind (out self.old).direction ((out self.old).added (seen (D.disk disk.old))) (as_version key.now sequence (option_map (λ v. v.now) put.entry)) → OnOk result ((out self.new).added (seen (D.disk disk.new)) ≡ with_version ((out self.old).added (seen (D.disk disk.old))) (as_version key.now sequence (option_map (λ v. v.now) put.entry))) };
+        ensures added { Tells (D.disk disk.old) → FitsBehind (out self.old).direction ((out self.old).added (seen (D.disk disk.old))) (as_version key.now sequence (option_map (λ v. v.now) put.entry)) → OnOk result ((out self.new).added (seen (D.disk disk.new)) ≡ with_version ((out self.old).added (seen (D.disk disk.old))) (as_version key.now sequence (option_map (λ v. v.now) put.entry))) }
+        ensures stands { Tells (D.disk disk.old) → IfSome (out self.old).file (λ f. OnOk result (stands self.new (file_of (D.disk disk.new) f))) };
 
     /// The bytes of the entries since `begin`, or the greatest number where they are more.
     fn bytes(&self) -> u64
@@ -72,6 +78,7 @@ pub trait RunOut<D: Disk> {
     fn finish(&mut self, disk: &mut D) -> Result<RunInfo, Stop>
         requires begun { IsSome (out self.old).file }
         requires some { 0 < (out self.old).bytes }
+        requires stands { Tells (D.disk disk.old) → IfSome (out self.old).file (λ f. stands self.old (file_of (D.disk disk.old) f)) }
         ensures direction { (out self.new).direction ≡ (out self.old).direction }
         ensures closed { (out self.new).file ≡ None }
         ensures counts { Counts 0 0 1 (D.disk disk.old) (D.disk disk.new) }

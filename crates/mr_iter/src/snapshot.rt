@@ -3,7 +3,7 @@ ghost use Rattle.std.specs.Prelude.{◌≡◌, ◌<◌, ◌≤◌, ◌+◌, ℕ,
 ghost use Rattle.mr_base.specs.Disk.{Tells, Image, seen};
 ghost use Rattle.mr_base.specs.Calls.{Same, Counts};
 ghost use Rattle.mr_iter.specs.Versions.{IsInOrder, version_cmp};
-ghost use Rattle.mr_iter.specs.Cursors.{CursorState, left, SameList, CountsStep, MayStop, with_current, IsInPlace};
+ghost use Rattle.mr_iter.specs.Cursors.{CursorState, left, SameList, CountsStep, MayStop, with_current, IsInPlace, IsWithinEnd};
 ghost use Rattle.mr_iter.specs.Snapshots.{shown, key_of, snapshot_state, skip_of, is_hidden, Passes};
 ghost use Rattle.mr_iter.specs.SnapshotLaws.{snapshot_in_order, snapshot_by_files, snapshot_going, snapshot_costs, snapshot_to_end};
 
@@ -37,13 +37,15 @@ pub fn pass<D: Disk, C: Cursor<D>>(
     ensures list { SameList (C.cursor inner.old) (C.cursor inner.new) }
     ensures counts { CountsStep (C.cursor inner.old) (C.cursor inner.new) (D.disk disk.old) (D.disk disk.new) }
     ensures same { Tells (D.disk disk.old) → Same (D.disk disk.old) (D.disk disk.new) }
-    ensures stops { IfErr result (MayStop (C.whole inner.old (seen (D.disk disk.old))) (D.disk disk.old) (D.disk disk.new)) }
+    ensures stops { IfErr result (MayStop (C.offends inner.old) (D.disk disk.old) (D.disk disk.new)) }
+    ensures offends { (image : Image) (file at : ℕ) → C.offends inner.new image file at → C.offends inner.old image file at }
     ensures whole { Tells (D.disk disk.old) → C.whole inner.old (seen (D.disk disk.old)) → C.whole inner.new (seen (D.disk disk.old)) }
     ensures sought { (k : List ℕ) → IsTrue ((C.cursor inner.old).sought k) → IfOk result (λ here. IsTrue ((C.cursor inner.new).sought k)) }
     ensures steady { Tells (D.disk disk.old) → C.whole inner.old (seen (D.disk disk.old)) → C.steady inner.old (seen (D.disk disk.old)) → IfOk result (λ here. C.steady inner.new (seen (D.disk disk.old))) }
     ensures steps { IfOk result (λ here. here ≡ false → (C.cursor inner.new).steps < (C.cursor inner.old).steps) }
     ensures stands { IfOk result (λ here. here ≡ true → IsSome (C.cursor inner.new).current × ((C.cursor inner.new).steps ≡ (C.cursor inner.old).steps)) }
     ensures passes { Tells (D.disk disk.old) → C.whole inner.old (seen (D.disk disk.old)) → IfOk result (λ here. Passes number here (skip_of skip.old) (skip_of skip.new) (C.cursor inner.old) (C.cursor inner.new) (seen (D.disk disk.old))) }
+    ensures spent { (k : List ℕ) → Tells (D.disk disk.old) → C.whole inner.old (seen (D.disk disk.old)) → C.steady inner.old (seen (D.disk disk.old)) → IsTrue ((C.cursor inner.old).distinct (seen (D.disk disk.old))) → IsTrue ((C.cursor inner.old).sought k) → OnErr result (IsWithinEnd (C.cursor inner.new) (seen (D.disk disk.old)) k) }
 {
     if hides::<D, C>(inner, number, skip) {
         return match inner.next(disk) {
@@ -77,12 +79,14 @@ pub fn settle<D: Disk, C: Cursor<D>>(
     ensures list { SameList (C.cursor inner.old) (C.cursor inner.new) }
     ensures counts { CountsStep (C.cursor inner.old) (C.cursor inner.new) (D.disk disk.old) (D.disk disk.new) }
     ensures same { Tells (D.disk disk.old) → Same (D.disk disk.old) (D.disk disk.new) }
-    ensures stops { IfErr result (MayStop (C.whole inner.old (seen (D.disk disk.old))) (D.disk disk.old) (D.disk disk.new)) }
+    ensures stops { IfErr result (MayStop (C.offends inner.old) (D.disk disk.old) (D.disk disk.new)) }
+    ensures offends { (image : Image) (file at : ℕ) → C.offends inner.new image file at → C.offends inner.old image file at }
     ensures whole { Tells (D.disk disk.old) → C.whole inner.old (seen (D.disk disk.old)) → C.whole inner.new (seen (D.disk disk.old)) }
     ensures sought { (k : List ℕ) → IsTrue ((C.cursor inner.old).sought k) → OnOk result (IsTrue ((C.cursor inner.new).sought k)) }
     ensures steady { Tells (D.disk disk.old) → C.whole inner.old (seen (D.disk disk.old)) → C.steady inner.old (seen (D.disk disk.old)) → OnOk result (C.steady inner.new (seen (D.disk disk.old))) }
     ensures steps { OnOk result ((C.cursor inner.new).steps ≤ (C.cursor inner.old).steps) }
     ensures settled { Tells (D.disk disk.old) → C.whole inner.old (seen (D.disk disk.old)) → OnOk result (shown number (skip_of skip.old) (left (C.cursor inner.old) (seen (D.disk disk.old))) ≡ with_current (C.cursor inner.new).current (shown number (key_of (C.cursor inner.new).current) ((C.cursor inner.new).rest (seen (D.disk disk.old))))) }
+    ensures spent { (k : List ℕ) → Tells (D.disk disk.old) → C.whole inner.old (seen (D.disk disk.old)) → C.steady inner.old (seen (D.disk disk.old)) → IsTrue ((C.cursor inner.old).distinct (seen (D.disk disk.old))) → IsTrue ((C.cursor inner.old).sought k) → OnErr result (IsWithinEnd (C.cursor inner.new) (seen (D.disk disk.old)) k) }
 {
     'settling: while !inner.at_end() {
         match pass::<D, C>(disk, inner, number, skip) {
@@ -111,6 +115,8 @@ impl<C: Listed> Listed for AtSnapshot<C> {
 
     ghost whole = { λ a image. C.whole a.inner image };
 
+    ghost offends = { λ a image file at. C.offends a.inner image file at };
+
     ghost steady = { λ a image. C.steady a.inner image × IsInPlace (snapshot_state a.number a.placed (C.cursor a.inner)) image };
 
     fn at_end(&self) -> bool {
@@ -133,9 +139,13 @@ impl<C: Listed> Listed for AtSnapshot<C> {
         self.inner.is_put()
     }
 
+    ghost not_whole = { λ a image file at offence whole. C.not_whole a.inner image file at offence whole };
+
     ghost in_order = { λ a image whole. snapshot_in_order a.number a.placed (C.cursor a.inner) image (C.in_order a.inner image whole) };
 
     ghost by_files = { λ a i j same whole. snapshot_by_files a.number a.placed (C.cursor a.inner) i j (C.by_files a.inner i j same whole) };
+
+    ghost offends_by_files = { λ a i j file at same offence. C.offends_by_files a.inner i j file at same offence };
 
     ghost in_place = { λ a image whole steady. steady.1 };
 
@@ -150,6 +160,7 @@ impl<C: Listed> AtSnapshot<C> {
     pub fn new(alloc: Global, inner: C, number: u64) -> AtSnapshot<C>
         ensures state { ⟦<AtSnapshot<C> as Listed>⟧.cursor result ≡ snapshot_state number false (C.cursor inner) }
         ensures whole { (image : Image) → C.whole inner image → ⟦<AtSnapshot<C> as Listed>⟧.whole result image }
+        ensures offends { (image : Image) (file at : ℕ) → ⟦<AtSnapshot<C> as Listed>⟧.offends result image file at → C.offends inner image file at }
     {
         AtSnapshot {
             inner,

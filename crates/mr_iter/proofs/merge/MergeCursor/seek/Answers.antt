@@ -2,6 +2,9 @@ use Rattle.std.proofs.Common.{map}
 use Rattle.mr_base.specs.Disk.{Tells, seen}
 use Rattle.mr_iter.specs.Cursors.{CursorState}
 use Rattle.mr_iter.proofs.MergeSteps.{kept_list, kept_lists, seek_left, kept_whole, kept_direction, found_merge, empty_queue, full_queue, total-map}
+use Rattle.mr_iter.specs.Versions.{version_cmp, merged, is_strict}
+use Rattle.mr_iter.specs.Merging.{lists}
+use Rattle.mr_iter.proofs.Spent.{merge_spent, each_distinct}
 use Rattle.mr_iter.proofs.Steady.{found_sought, merge_found_steady}
 use Rattle.mr_iter.proofs.merge.MergeCursor.seek.Goals as goal
 
@@ -67,3 +70,13 @@ returns-in-Ok-fill_queue-clause-steady g c = λ told is.
     (kept_lists g.C.Listed.cursor g.C.Listed.whole (seen (g.D.Disk.disk c.args.disk.now)) (Tells (g.D.Disk.disk c.args.disk.now)) c.args.self.now.direction c.args.self.now.children.items c.seek_all.new.children.items c.seek_all.ensures.keeps (seen (g.D.Disk.disk c.args.disk.now)))
     (found_merge g.C.Listed.cursor g.C.Listed.whole (seen (g.D.Disk.disk c.args.disk.now)) (Tells (g.D.Disk.disk c.args.disk.now)) c.args.self.now.direction g.met.C.Listed.in_order g.C.Listed.steady c.args.key.now c.args.self.now.children.items c.seek_all.new.children.items c.fill_queue.new.order.items c.seek_all.ensures.keeps c.in-Ok.ensures.found c.args.self.now.one_direction (rw (← c.deref.ensures.value) c.in-Ok-fill_queue.ensures.queue) (rw (← c.deref.ensures.value) c.in-Ok-fill_queue.ensures.all) told is)
     (seek_left g.C.Listed.cursor g.C.Listed.whole (seen (g.D.Disk.disk c.args.disk.now)) (Tells (g.D.Disk.disk c.args.disk.now)) c.args.self.now.direction g.met.C.Listed.in_order c.args.self.now.children.items c.seek_all.new.children.items c.fill_queue.new.order.items c.seek_all.ensures.keeps c.args.self.now.one_direction (rw (← c.deref.ensures.value) c.in-Ok-fill_queue.ensures.queue) (rw (← c.deref.ensures.value) c.in-Ok-fill_queue.ensures.all) told is)
+
+pub returns-in-Err-clause-spent : goal.returns-in-Err-clause-spent
+returns-in-Err-clause-spent g c = λ told is one.
+    merge_spent g.C.Listed.cursor c.args.self.now.direction c.args.self.now.order.items (seen (g.D.Disk.disk c.args.disk.now)) c.args.key.now c.args.self.now.children.items (g.D.Disk.disk c.args.disk.now) (g.D.Disk.disk c.seek_all.new.disk)
+    (c.seek_all.ensures.spent told is (each_distinct g.C.Listed.cursor (seen (g.D.Disk.disk c.args.disk.now)) c.args.self.now.children.items (is_strict c.args.self.now.direction (merged (version_cmp c.args.self.now.direction) (lists (map g.C.Listed.cursor c.args.self.now.children.items) (seen (g.D.Disk.disk c.args.disk.now))))) one))
+
+pub returns-in-Err-fill_queue-clause-spent : goal.returns-in-Err-fill_queue-clause-spent
+returns-in-Err-fill_queue-clause-spent g c = λ told is one.
+    merge_spent g.C.Listed.cursor c.args.self.now.direction c.args.self.now.order.items (seen (g.D.Disk.disk c.args.disk.now)) c.args.key.now c.args.self.now.children.items (g.D.Disk.disk c.args.disk.now) (g.D.Disk.disk c.seek_all.new.disk)
+    (c.seek_all.ensures.spent told is (each_distinct g.C.Listed.cursor (seen (g.D.Disk.disk c.args.disk.now)) c.args.self.now.children.items (is_strict c.args.self.now.direction (merged (version_cmp c.args.self.now.direction) (lists (map g.C.Listed.cursor c.args.self.now.children.items) (seen (g.D.Disk.disk c.args.disk.now))))) one))
