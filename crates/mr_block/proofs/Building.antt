@@ -1,5 +1,5 @@
 -- A block is made of its versions, and reads back.
-use Rattle.std.proofs.Common.{◌≡◌, ℕ, ◌+◌, ◌*◌, ◌-◌, ◌^◌, ◌<◌, ◌≤◌, zero, suc, List, [], ◌∷◌, ◌++◌, length, take, drop, get_or, Bool, true, false, cond, nat_le, refl, sym, ◌∙◌, ap, arith, add-one, append_assoc, Ok, Err, Option, Some, None, is_some, unwrap_or, length-append}
+use Rattle.std.proofs.Common.{◌≡◌, ℕ, ◌+◌, ◌*◌, ◌-◌, ◌^◌, ◌<◌, ◌≤◌, zero, suc, List, [], ◌∷◌, ◌++◌, length, take, drop, get_or, Bool, true, false, cond, nat_le, refl, sym, ◌∙◌, ap, subst, arith, add-one, append_assoc, Ok, Err, Option, Some, None, is_some, unwrap_or, length-append}
 use Rattle.std.specs.List.{AllByRecursion}
 use Rattle.std.proofs.lemmas.Bool.Decides.{nat_tests}
 use Rattle.std.proofs.Math.Seq.{drop-append_seam}
@@ -9,7 +9,7 @@ use Rattle.mr_iter.specs.Versions.{Version, as_version}
 use Rattle.mr_iter.specs.Order.{each-append}
 use Rattle.mr_block.specs.Fields.{number_in, bytes_in}
 use Rattle.mr_block.specs.Block.{kind_byte, entry_bytes, entries_bytes, places_bytes, block_bytes, kind_in, value_length_in, value_of, entry_in, entry_then, with_first, entries_in, behind_count, short_at, block_in}
-use Rattle.mr_block.specs.Built.{offsets_from, placed, FitsEntry, IsBuilt}
+use Rattle.mr_block.specs.Built.{offsets_from, placed, FitsEntry, IsBuilt, version_then, versions_in}
 use Rattle.mr_block.proofs.FieldLaws.{number_back, bytes_back, then_ok}
 use Rattle.mr_block.proofs.BlockLaws.{drop_more}
 use Rattle.mr_block.proofs.Entries.{step_right}
@@ -36,6 +36,11 @@ built_more entries offsets vs v at built fits is = record {
   places = let here : at ≡ 0 + length (entries_bytes vs) = omega (arith, is, ap length built.bytes) in ap (λ (x : List ℕ). x ++ at ∷ []) built.places ∙ ap (λ (n : ℕ). offsets_from 0 vs ++ n ∷ []) here ∙ sym (offsets_more 0 vs v);
   fits = each-append FitsEntry vs (v ∷ []) built.fits (fits, tt);
 }
+
+-- the entry of one version more was written behind the others, and its beginning kept
+pub added : (entries offsets entries' offsets' : List ℕ) (vs : List Version) (v : Version) (at : ℕ) → IsBuilt entries offsets vs → FitsEntry v → at ≡ length entries → entries' ≡ entries ++ entry_bytes v → offsets' ≡ offsets ++ at ∷ [] → IsBuilt entries' offsets' (vs ++ v ∷ [])
+added entries offsets entries' offsets' vs v at built fits is e o =
+    subst (λ (es : List ℕ). IsBuilt es offsets' (vs ++ v ∷ [])) (sym e) (subst (λ (os : List ℕ). IsBuilt (entries ++ entry_bytes v) os (vs ++ v ∷ [])) (sym o) (built_more entries offsets vs v at built fits is))
 
 -- ---- the places
 
@@ -93,6 +98,18 @@ entry_back v rest fits =
     ∙ then_ok (value_length_in (is_some v.put) (big_bytes 4 (length (unwrap_or v.put [])) ++ r6)) _ (length (unwrap_or v.put []), r6) (length_back v.put r6 fits.value)
     ∙ then_ok (bytes_in (length (unwrap_or v.put [])) (unwrap_or v.put [] ++ rest)) _ (unwrap_or v.put [], rest) (bytes_back (unwrap_or v.put []) rest)
     ∙ ap (λ (o : Option (List ℕ)). Ok (as_version v.key v.sequence o, rest)) (value_back v.put)
+
+-- the versions that were added are read in front of their entries
+versions_back : (vs : List Version) → AllByRecursion FitsEntry vs → versions_in (length vs) (entries_bytes vs) ≡ vs
+versions_back [] fits = refl
+versions_back (v ∷ vs) fits = ap (version_then (versions_in (length vs))) (entry_back v (entries_bytes vs) fits.0) ∙ ap (λ (ws : List Version). v ∷ ws) (versions_back vs fits.1)
+
+pub versions_built : (entries offsets : List ℕ) (vs : List Version) → IsBuilt entries offsets vs → versions_in (length offsets) entries ≡ vs
+versions_built entries offsets vs built =
+    ap (λ (n : ℕ). versions_in n entries) (ap length built.places ∙ length-offsets 0 vs) ∙ ap (versions_in (length vs)) built.bytes ∙ versions_back vs built.fits
+
+pub is_built : (entries offsets : List ℕ) (vs : List Version) → IsBuilt entries offsets vs → IsBuilt entries offsets (versions_in (length offsets) entries)
+is_built entries offsets vs built = subst (IsBuilt entries offsets) (sym (versions_built entries offsets vs built)) built
 
 entries_back : (block : List ℕ) (p : ℕ) (vs : List Version) (more : List ℕ) → AllByRecursion FitsEntry vs → length block < 2 ^ 32 → length (entries_bytes vs) ≤ length block →
     drop p block ≡ places_bytes (length block - length (entries_bytes vs)) vs ++ more → entries_in block (length vs) p (entries_bytes vs) ≡ Ok vs

@@ -1,9 +1,10 @@
 -- A block that is being made.
-use Rattle.std.specs.Prelude.{◌≡◌, ℕ, ◌+◌, ◌^◌, ◌<◌, List, [], ◌∷◌, ◌++◌, length, unwrap_or}
+use Rattle.std.specs.Prelude.{◌≡◌, ℕ, ◌+◌, ◌^◌, ◌<◌, zero, suc, List, [], ◌∷◌, ◌++◌, length, unwrap_or, Ok, Err}
 use Rattle.std.specs.List.{AllByRecursion}
 use Rattle.byteorder.specs.Endian.{big_bytes}
 use Rattle.mr_iter.specs.Versions.{Version}
-use Rattle.mr_block.specs.Block.{entry_bytes, entries_bytes}
+use Rattle.mr_block.specs.Fields.{Read}
+use Rattle.mr_block.specs.Block.{entry_bytes, entries_bytes, entry_in}
 
 -- where the entries begin, of which the first begins at this place
 abbrev pub offsets_from : ℕ → List Version → List ℕ
@@ -26,3 +27,12 @@ pub record IsBuilt (entries offsets : List ℕ) (vs : List Version) : Type 0 whe
   pub bytes : entries ≡ entries_bytes vs
   pub places : offsets ≡ offsets_from 0 vs
   pub fits : AllByRecursion FitsEntry vs
+
+abbrev pub version_then : (List ℕ → List Version) → Read Version → List Version
+version_then more (Ok r) = r.0 ∷ more r.1
+version_then more (Err left) = []
+
+-- so many versions whose entries stand in front
+abbrev pub versions_in : ℕ → List ℕ → List Version
+versions_in zero entries = []
+versions_in (suc n) entries = version_then (versions_in n) (entry_in entries)

@@ -2,10 +2,10 @@
 ghost use Rattle.std.specs.Prelude.{◌≡◌, ◌<◌, ◌≤◌, ◌-◌, length, IfOk, IfErr, Err, Ok, drop, get_or, is_some, unwrap_or, [], true, false};
 ghost use Rattle.std.specs.Ordering.{is_lt};
 ghost use Rattle.mr_iter.specs.Versions.{key_cmp, version_cmp, from_key, IsInOrder};
-ghost use Rattle.mr_block.specs.Block.{block_in, block_bytes, no_version};
+ghost use Rattle.mr_block.specs.Block.{block_in, block_bytes, no_version, IsBlock};
 ghost use Rattle.mr_block.specs.Given.{version_of};
 
-use crate::block::{check_block, entry_at};
+use crate::block::{check_block, entry_at, place_at};
 use crate::entry::Entry;
 use mr_base::{Direction, Malformed};
 use mr_iter::compare_keys;
@@ -44,6 +44,19 @@ impl<'a> BlockRef<'a> {
             block: bytes,
             count,
         })
+    }
+
+    /// The block that the bytes are known to be. It is not judged again.
+    pub fn of(bytes: &'a [u8]) -> BlockRef<'a>
+        requires { IsBlock bytes.now }
+        ensures ok { block_in bytes.now ≡ Ok result }
+        ensures form { bytes.now ≡ block_bytes result }
+    {
+        let count = place_at(bytes, 0);
+        BlockRef {
+            block: bytes,
+            count,
+        }
     }
 
     /// How many versions it has.

@@ -1,20 +1,35 @@
 //! Making a block.
-ghost use Rattle.std.specs.Prelude.{◌≡◌, ◌^◌, nat_lt, length, ◌++◌, ◌∷◌, [], List, OnOk, OnErr, IfOk, Ok};
+ghost use Rattle.std.specs.Prelude.{◌≡◌, ◌^◌, nat_lt, length, ◌++◌, ◌∷◌, [], OnOk, OnErr, IfOk, Ok};
+ghost use Rattle.std.specs.List.{AllByRecursion};
 ghost use Rattle.std.specs.Option.{option_map};
-ghost use Rattle.mr_iter.specs.Versions.{Version, as_version};
+ghost use Rattle.mr_iter.specs.Versions.{as_version};
 ghost use Rattle.mr_block.specs.Block.{block_bytes, block_in};
-ghost use Rattle.mr_block.specs.Built.{IsBuilt, placed};
+ghost use Rattle.mr_block.specs.Built.{placed, FitsEntry};
 
 use crate::write::{write_entry, write_u32};
 use mr_base::{Blob, Memory};
 use std::alloc::Global;
+use std::marker::Model;
 
-/// The entries so far, where each begins among them, and a place to write the next one.
+/// A block that is being made, as the list of the versions that were added: their entries, where each begins among them, and a place to write the
+/// next one.
 #[derive(Drop)]
 pub struct BlockBuilder {
     entries: Vec<u8>,
     offsets: Vec<usize>,
     scratch: Vec<u8>,
+}
+
+impl Model for BlockBuilder {
+    ghost use Rattle.std.specs.Prelude.{List, length};
+    ghost use Rattle.mr_iter.specs.Versions.{Version};
+    ghost use Rattle.mr_block.specs.Built.{IsBuilt, versions_in};
+
+    ghost Value = { List Version };
+
+    ghost view = { λ b. versions_in (length b.offsets.items) b.entries.items };
+
+    ghost invariant = { λ b. IsBuilt b.entries.items b.offsets.items (versions_in (length b.offsets.items) b.entries.items) };
 }
 
 /// Whether a length has a place in a field of 4 bytes.
@@ -40,7 +55,7 @@ fn write_places(out: &mut Vec<u8>, start: usize, offsets: &[usize]) -> Result<()
 impl BlockBuilder {
     /// No version.
     pub fn new(alloc: Global) -> BlockBuilder
-        ensures { IsBuilt result.entries.items result.offsets.items [] }
+        ensures { result ≡ [] }
     {
         BlockBuilder {
             entries: Vec::new(alloc),
@@ -52,8 +67,9 @@ impl BlockBuilder {
     /// Adds a version behind the others; `put` is None for a deletion. Takes memory; after an error it has just the others. A key or a value of 2^32
     /// bytes or more is answered as want of memory.
     pub fn add(&mut self, key: &[u8], sequence: u64, put: Option<&[u8]>) -> Result<(), Memory>
-        ensures added { (vs : List Version) → IsBuilt self.old.entries.items self.old.offsets.items vs → OnOk result (IsBuilt self.new.entries.items self.new.offsets.items (vs ++ as_version key.now sequence (option_map (λ v. v.now) put.entry) ∷ [])) }
-        ensures same { (vs : List Version) → IsBuilt self.old.entries.items self.old.offsets.items vs → OnErr result (IsBuilt self.new.entries.items self.new.offsets.items vs) }
+        ensures added { OnOk result (self.new ≡ self.old ++ as_version key.now sequence (option_map (λ v. v.now) put.entry) ∷ []) }
+        ensures fits { OnOk result (FitsEntry (as_version key.now sequence (option_map (λ v. v.now) put.entry))) }
+        ensures same { OnErr result (self.new ≡ self.old) }
     {
         if !has_field(key) || !has_field(put.unwrap_or(&[])) {
             return Err(Memory);
@@ -76,8 +92,9 @@ impl BlockBuilder {
 
     /// The block of the versions. Takes memory. A block of 2^32 bytes or more is answered as want of memory.
     pub fn finish(self) -> Result<Blob, Memory>
-        ensures written { (vs : List Version) → IsBuilt self.entries.items self.offsets.items vs → IfOk result (λ b. b ≡ block_bytes vs) }
-        ensures reads_back { (vs : List Version) → IsBuilt self.entries.items self.offsets.items vs → IfOk result (λ b. block_in b ≡ Ok vs) }
+        ensures written { IfOk result (λ b. b ≡ block_bytes self) }
+        ensures fits { OnOk result (AllByRecursion FitsEntry self) }
+        ensures reads_back { IfOk result (λ b. block_in b ≡ Ok self) }
     {
         let count = self.offsets.len();
         let Ok(number) = u32::try_from(count) else {

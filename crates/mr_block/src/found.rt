@@ -1,6 +1,7 @@
 //! A version that was looked up, in the block that holds it.
-ghost use Rattle.std.specs.Prelude.{◌≡◌, ◌<◌, length, get_or, is_some, unwrap_or, []};
-ghost use Rattle.mr_block.specs.Block.{block_in, list_of, IsBlock, no_version};
+ghost use Rattle.std.specs.Prelude.{◌≡◌, ◌<◌, length, is_some, unwrap_or, []};
+ghost use Rattle.mr_block.specs.Block.{block_in, list_of, IsBlock};
+ghost use Rattle.mr_block.specs.Held.{version_held};
 
 use crate::block::entry_at;
 use bytes::Bytes;
@@ -14,13 +15,13 @@ pub struct Found {
 }
 
 impl Model for Found {
-    ghost use Rattle.std.specs.Prelude.{◌<◌, length, get_or};
-    ghost use Rattle.mr_iter.specs.Versions.{Version};
-    ghost use Rattle.mr_block.specs.Block.{block_in, list_of, IsBlock, no_version};
+    ghost use Rattle.std.specs.Prelude.{◌<◌, length};
+    ghost use Rattle.mr_block.specs.Block.{block_in, list_of, IsBlock};
+    ghost use Rattle.mr_block.specs.Held.{Held};
 
-    ghost Value = { Version };
+    ghost Value = { Held };
 
-    ghost view = { λ f. get_or (list_of (block_in f.block)) f.at no_version };
+    ghost view = { λ f. record { block = f.block; at = f.at } };
 
     ghost invariant = { λ f. IsBlock f.block × (f.at < length (list_of (block_in f.block))) };
 }
@@ -30,34 +31,35 @@ impl Found {
     pub fn new(block: Bytes, at: usize) -> Found
         requires block { IsBlock block }
         requires within { at < length (list_of (block_in block)) }
-        ensures { result ≡ get_or (list_of (block_in block)) at no_version }
+        ensures block { result.block ≡ block }
+        ensures at { result.at ≡ at }
     {
         Found { block, at }
     }
 
     pub fn key(&self) -> &[u8]
-        ensures { result.now ≡ self.now.key }
+        ensures { result.now ≡ (version_held self.now).key }
     {
         entry_at(&self.block, self.at).key
     }
 
     /// The value, empty for a deletion.
     pub fn value(&self) -> &[u8]
-        ensures { result.now ≡ unwrap_or self.now.put [] }
+        ensures { result.now ≡ unwrap_or (version_held self.now).put [] }
     {
         let entry = entry_at(&self.block, self.at);
         if entry.is_put { entry.value } else { &[] }
     }
 
     pub fn sequence(&self) -> u64
-        ensures { result ≡ self.now.sequence }
+        ensures { result ≡ (version_held self.now).sequence }
     {
         entry_at(&self.block, self.at).sequence
     }
 
     /// False for a deletion.
     pub fn is_put(&self) -> bool
-        ensures { result ≡ is_some self.now.put }
+        ensures { result ≡ is_some (version_held self.now).put }
     {
         entry_at(&self.block, self.at).is_put
     }

@@ -29,7 +29,7 @@ pub bound : {X Y : Type 0} (x : Result X ℕ) (f : X → Result Y ℕ) (y : Y) �
 bound (Ok z) f y e = (z, refl, e)
 bound (Err left) f y e = cc
 
-each_byte : (s : List ℕ) → list_all is_byte s ≡ true → (k : ℕ) → slice_index s k < 256
+pub each_byte : (s : List ℕ) → list_all is_byte s ≡ true → (k : ℕ) → slice_index s k < 256
 each_byte [] e k = omega arith
 each_byte (b ∷ s) e zero = ltb-true b 256 ((and_true (is_byte b) (list_all is_byte s) e).0)
 each_byte (b ∷ s) e (suc k) = each_byte s ((and_true (is_byte b) (list_all is_byte s) e).1) k

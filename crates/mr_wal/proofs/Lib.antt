@@ -1,5 +1,6 @@
 mod FieldLaws
 mod Batches
 mod OperationLaws
+mod OperationFitting
 mod RecordLaws
 mod WritingLaws

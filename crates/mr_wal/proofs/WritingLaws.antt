@@ -1,5 +1,5 @@
 -- What is written reads back.
-use Rattle.std.proofs.Common.{◌≡◌, ℕ, ◌+◌, ◌^◌, ◌<◌, zero, suc, List, [], ◌∷◌, ◌++◌, length, take, get_or, refl, ap, sym, ◌∙◌, arith, add-one, Bool, true, false, cond, append_assoc, Ok, Err, Option, Some, None, is_some}
+use Rattle.std.proofs.Common.{◌≡◌, ℕ, ◌+◌, ◌^◌, ◌<◌, zero, suc, List, [], ◌∷◌, ◌++◌, length, take, get_or, refl, ap, sym, ◌∙◌, subst, arith, add-one, Bool, true, false, cond, append_assoc, Result, Ok, Err, OnOk, Option, Some, None, is_some}
 use Rattle.std.specs.List.{AllByRecursion}
 use Rattle.std.proofs.lemmas.Bool.{lt-ltb}
 use Rattle.byteorder.specs.Endian.{big_bytes}
@@ -25,6 +25,25 @@ operations_take os i o lt is = ap (λ (m : ℕ). operations_bytes (take m os)) (
     go [] i lt is = absurd (omega arith)
     go (p ∷ os) zero lt is = no_end (operation_bytes p) ∙ ap operation_bytes (sym is)
     go (p ∷ os) (suc i) lt is = ap (λ (x : List ℕ). operation_bytes p ++ x) (go os i (omega arith) is) ∙ sym (append_assoc (operation_bytes p) (operations_bytes (take i os)) (operation_bytes o))
+
+-- one operation more fits
+pub fitting_take : (os : List Operation) (i : ℕ) (o : Operation) → i < length os → o ≡ get_or os i o → AllByRecursion OperationFits (take i os) → OperationFits o → AllByRecursion OperationFits (take (i + 1) os)
+fitting_take os i o lt is all fits = subst (λ (m : ℕ). AllByRecursion OperationFits (take m os)) (sym (add-one i)) (go os i lt is all)
+  where
+    go : (os : List Operation) (i : ℕ) → i < length os → o ≡ get_or os i o → AllByRecursion OperationFits (take i os) → AllByRecursion OperationFits (take (suc i) os)
+    go [] i lt is all = absurd (omega arith)
+    go (p ∷ os) zero lt is all = (subst OperationFits is fits, tt)
+    go (p ∷ os) (suc i) lt is all = (all.0, go os i (omega arith) is all.1)
+
+-- what was written in one piece behind another, and in one behind two others
+pub one_front : {T E : Type 0} (r : Result T E) (x y w one more whole : List ℕ) → y ≡ x ++ one → OnOk r (w ≡ y ++ more) → whole ≡ one ++ more → OnOk r (w ≡ x ++ whole)
+one_front (Err e) x y w one more whole a h is = h
+one_front (Ok u) x y w one more whole a h is = h ∙ ap (λ (s : List ℕ). s ++ more) a ∙ append_assoc x one more ∙ ap (λ (s : List ℕ). x ++ s) (sym is)
+
+pub two_fronts : {T E : Type 0} (r : Result T E) (x y z w one two more whole : List ℕ) → y ≡ x ++ one → z ≡ y ++ two → OnOk r (w ≡ z ++ more) → whole ≡ one ++ (two ++ more) → OnOk r (w ≡ x ++ whole)
+two_fronts (Err e) x y z w one two more whole a b h is = h
+two_fronts (Ok u) x y z w one two more whole a b h is =
+    h ∙ ap (λ (s : List ℕ). s ++ more) (b ∙ ap (λ (s : List ℕ). s ++ two) a) ∙ append_assoc (x ++ one) two more ∙ append_assoc x one (two ++ more) ∙ ap (λ (s : List ℕ). x ++ s) (sym is)
 
 kind_back : (put : Bool) (rest : List ℕ) → kind_in ((kind_byte put ∷ []) ++ rest) ≡ Ok (put, rest)
 kind_back true rest = refl

@@ -1,4 +1,4 @@
--- Records whose numbers and lengths are in their fields.
+-- Records whose numbers and lengths are in their fields, and which keep the rules on verdicts and sequence numbers.
 use Rattle.std.specs.Prelude.{ℕ, ◌^◌, ◌<◌, List, length, Option, Some, None}
 use Rattle.std.specs.List.{AllByRecursion}
 use Rattle.mr_wal.specs.declared.operation.Operation.{Operation}
@@ -27,3 +27,14 @@ BodyFits Decided = Unit {0}
 pub record RecordFits (r : WalRecord) : Type 0 where
   pub verdict : r.verdict < 3
   pub body : BodyFits r.body
+
+-- ---- what a writer takes: whatever the verdict and the sequence number, each number and each length has a place in its field
+
+abbrev pub BodyFieldsFit : WalBody → Type 0
+BodyFieldsFit (Prepare k sequence batch) = (k < 2 ^ 64) × (sequence < 2 ^ 64) × BatchFits batch
+BodyFieldsFit (Plain sequence batch) = (sequence < 2 ^ 64) × BatchFits batch
+BodyFieldsFit Decided = Unit {0}
+
+pub record FieldsFit (r : WalRecord) : Type 0 where
+  pub verdict : r.verdict < 2 ^ 8
+  pub body : BodyFieldsFit r.body

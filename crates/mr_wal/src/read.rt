@@ -3,6 +3,7 @@ ghost use Rattle.std.specs.Prelude.{◌≡◌, ◌≤◌, length, IfOk, IfErr, O
 ghost use Rattle.mr_wal.specs.declared.record.WalBody.TheVariants.{Decided};
 ghost use Rattle.mr_wal.specs.Fields.{number_given};
 ghost use Rattle.mr_wal.specs.EngineLog.{sequence_in, operations_in, batch_in, ended, prepare_in, plain_in, body_in, record_in, read_record as record_of, record_bytes};
+ghost use Rattle.mr_wal.specs.Fitting.{RecordFits};
 ghost use Rattle.mr_wal.specs.Given.{BatchGiven, BodyGiven, RecordGiven, IsAnswer, ends};
 
 use crate::fields::{BytesLeft, u32_in, u64_in};
@@ -145,6 +146,7 @@ pub fn read_record(alloc: Global, bytes: &[u8]) -> Result<WalRecord, DefAnswer>
     ensures ok { IfOk result (λ r. record_of bytes.now ≡ Ok r) }
     ensures err { IfErr result (IsAnswer (record_of bytes.now)) }
     ensures form { IfOk result (λ r. bytes.now ≡ record_bytes r) }
+    ensures fits { IfOk result RecordFits }
 {
     match read_whole(alloc, bytes) {
         Ok(read) => Ok(read),
