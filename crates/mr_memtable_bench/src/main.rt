@@ -1,13 +1,59 @@
-//! How long inserts of random 16-byte keys into a memtable take: `mr_memtable_bench 100000 1000000`.
-//! Any other word stands for 10,000 inserts.
+//! How long inserts of random 16-byte keys into a memtable take, and a walk over as many in eight memtables as one:
+//! `mr_memtable_bench 100000 1000000`. Any other word stands for 10,000 inserts.
 #![tactic(auto)]
 
-ghost use Rattle.std.specs.Prelude.{◌≡◌, ◌+◌, ◌*◌, ◌≤◌, ◌<◌};
+ghost use Rattle.std.specs.Prelude.{◌≡◌, false, [], IfOk, ◌+◌, ◌*◌, ◌≤◌, ◌<◌, map};
+ghost use Rattle.std.specs.List.{AllByRecursion};
+ghost use Rattle.std.proofs.Common.{sym};
+ghost use mathlib.Core.Bool.{true≢false};
+ghost use Rattle.mr_base.specs.Disk.{at_rest};
+ghost use Rattle.mr_base.specs.declared.stop.Direction.TheVariants.{Forward};
+ghost use Rattle.mr_iter.specs.Merging.{IsOneDirection};
+ghost use Rattle.mr_memtable.specs.Tables.{MemState};
 
-use mr_base::Direction;
-use mr_memtable::Memtable;
+use mr_base::{Direction, Disk, DiskFault, Memory, Stop};
+use mr_iter::{Cursor, Listed, Merge};
+use mr_memtable::{MemCursor, Memtable};
+use std::alloc::Global;
 use std::time::Instant;
 use std::{env, io};
+
+/// A disk that tells nothing and that no cursor over memory uses.
+#[derive(Drop)]
+struct Unused {
+    faults: u64,
+}
+
+impl Disk for Unused {
+    ghost disk = { λ b. record { tells = false; moments = λ k. record { files = λ f. at_rest []; output = [] }; now = 0; faults = b.faults; emit_faults = 0; reads = 0; asked = 0; syncs = 0 } };
+
+    ghost read_may_be_left = { λ b file tells. absurd (true≢false (sym tells)) };
+
+    fn read(&mut self, _: u64, _: u64, _: &mut [u8]) -> Result<usize, DiskFault> {
+        self.faults = self.faults.saturating_add(1);
+        Err(DiskFault)
+    }
+
+    fn write_at(&mut self, _: u64, _: u64, _: &[u8]) -> Result<(), DiskFault> {
+        self.faults = self.faults.saturating_add(1);
+        Err(DiskFault)
+    }
+
+    fn cut(&mut self, _: u64, _: u64) -> Result<(), DiskFault> {
+        self.faults = self.faults.saturating_add(1);
+        Err(DiskFault)
+    }
+
+    fn sync(&mut self, _: u64) -> Result<(), DiskFault> {
+        self.faults = self.faults.saturating_add(1);
+        Err(DiskFault)
+    }
+
+    fn length(&mut self, _: u64) -> Result<u64, DiskFault> {
+        self.faults = self.faults.saturating_add(1);
+        Err(DiskFault)
+    }
+}
 
 /// The next number of a generator.
 fn next(x: u64) -> u64 {
@@ -15,12 +61,13 @@ fn next(x: u64) -> u64 {
         .wrapping_add(1442695040888963407)
 }
 
-/// Inserts so many random keys.
-fn fill(table: &mut Memtable, count: usize)
+/// Inserts so many random keys, which the seed determines.
+fn fill(table: &mut Memtable, count: usize, seed: u64)
     requires entries { count ≤ table.old.entries }
     requires bytes { 16 * count ≤ table.old.bytes }
+    ensures { table.new.direction ≡ table.old.direction }
 {
-    let mut x = 1;
+    let mut x = seed;
     for i in 0..count {
         x = next(x);
         let a = x.to_be_bytes();
@@ -32,6 +79,70 @@ fn fill(table: &mut Memtable, count: usize)
         ];
         table.insert(&key, i as u64, Some(b""));
     }
+}
+
+/// A memtable with so many random keys.
+fn table_of(alloc: Global, count: usize, seed: u64) -> Result<Memtable, Memory>
+    requires { count ≤ 1000000 }
+    ensures { IfOk result (λ t. t.direction ≡ Forward) }
+{
+    let mut table = Memtable::new(alloc, Direction::Forward);
+    table.reserve(count, 16 * count)?;
+    fill(&mut table, count, seed);
+    Ok(table)
+}
+
+/// Eight memtables with so many random keys each.
+fn eight_tables(alloc: Global, count: usize) -> Result<Vec<Memtable>, Memory>
+    requires { count ≤ 1000000 }
+    ensures { IfOk result (λ ts. AllByRecursion (λ (t : MemState). t.direction ≡ Forward) ts.items) }
+{
+    let mut tables = Vec::new(alloc);
+    'making: for seed in 1..9u64 {
+        let table = table_of(alloc, count, seed)?;
+        match tables.push(table) {
+            Ok(()) => {}
+            Err(_) => return Err(Memory),
+        }
+    }
+    Ok(tables)
+}
+
+/// A cursor over each memtable.
+fn cursors_of<'a>(alloc: Global, tables: &'a [Memtable]) -> Result<Vec<MemCursor<'a>>, Memory>
+    requires { AllByRecursion (λ (t : MemState). t.direction ≡ Forward) tables.now }
+    ensures { IfOk result (λ cs. IsOneDirection Forward (map ⟦<MemCursor<'a> as Listed>⟧.cursor cs.items)) }
+{
+    let mut cursors = Vec::new(alloc);
+    'opening: for table in tables {
+        let cursor = table.cursor();
+        match cursors.push(cursor) {
+            Ok(()) => {}
+            Err(_) => return Err(Memory),
+        }
+    }
+    Ok(cursors)
+}
+
+/// How many steps a cursor takes to its end.
+fn count_steps<D: Disk, C: Cursor<D>>(disk: &mut D, cursor: &mut C) -> Result<u64, Stop> {
+    let mut steps = 0u64;
+    'walking: while !cursor.at_end() {
+        cursor.next(disk)?;
+        steps = steps.saturating_add(1);
+    }
+    Ok(steps)
+}
+
+/// Merges the memtables, seeks the first version, and counts the steps to the end.
+fn walk(alloc: Global, tables: &[Memtable]) -> Result<u64, Stop>
+    requires { AllByRecursion (λ (t : MemState). t.direction ≡ Forward) tables.now }
+{
+    let cursors = cursors_of(alloc, tables)?;
+    let mut merge = Merge::new(cursors, Direction::Forward)?;
+    let mut disk = Unused { faults: 0 };
+    merge.seek(&mut disk, b"")?;
+    count_steps(&mut disk, &mut merge)
 }
 
 fn main(rt: HostRuntime) -> io::Result<()> {
@@ -46,9 +157,18 @@ fn main(rt: HostRuntime) -> io::Result<()> {
             return Ok(());
         }
         let start = Instant::now(&rt)?;
-        fill(&mut table, count);
+        fill(&mut table, count, 1);
         let took = start.elapsed(&rt)?.as_micros();
         println!(rt; "{count} inserts, {took} us")?;
+        let Ok(tables) = eight_tables(rt.alloc(), count / 8) else {
+            return Ok(());
+        };
+        let start = Instant::now(&rt)?;
+        let Ok(steps) = walk(rt.alloc(), &tables) else {
+            return Ok(());
+        };
+        let took = start.elapsed(&rt)?.as_micros();
+        println!(rt; "merge of 8, {steps} steps, {took} us")?;
     }
     Ok(())
 }
