@@ -1,8 +1,15 @@
--- A table with a key more or less.
-use Rattle.std.specs.Prelude.{ℕ, not, List, [], ◌∷◌, ◌++◌, filter}
+-- A table after a change of a row, and with a key more or less.
+use Rattle.std.specs.Prelude.{ℕ, not, if◌then◌else◌, List, [], ◌∷◌, ◌++◌, filter}
 use Rattle.mr_types.specs.declared.definition.IndexDef.{IndexDef}
 use Rattle.mr_spec.specs.declared.world.Table.{Table}
+use Rattle.mr_types.specs.declared.row.Change.{Change}
+use Rattle.mr_spec.specs.Database.{is_table}
 use Rattle.mr_spec.specs.KeyChecks.{is_named}
+use Rattle.mr_spec.specs.Rows.{rows_after, table_name}
+
+-- after a change of a row, of this table or another
+abbrev pub table_after : Change → Table → Table
+table_after c t = if is_table (table_name c) t then record t { rows = rows_after t.def t.rows c } else t
 
 -- with this key as the last one
 abbrev pub table_with : Table → IndexDef → Table

@@ -1,6 +1,6 @@
 //! Copies of changes, transactions and sessions.
 
-ghost use Rattle.std.specs.Prelude.{◌≡◌, ◌∷◌, IfOk};
+ghost use Rattle.std.specs.Prelude.{◌≡◌, ◌++◌, ◌∷◌, take, drop, reverse, OnOk, IfOk};
 
 use mr_base::Memory;
 use mr_spec::{Savepoint, Session, SessionList, Txn};
@@ -15,6 +15,37 @@ pub fn in_front<T: Drop>(alloc: Global, first: T, rest: Items<T>) -> Result<Item
     let mut all = Items::new(alloc);
     all.push(first)?;
     all.append(rest)?;
+    Ok(all)
+}
+
+/// Takes the items from a place on, the last one first.
+#[tactic(auto, using(crate::proofs::Moved::popped, crate::proofs::Moved::rest_of, crate::proofs::Moved::taken))]
+pub fn take_off<T: Drop>(alloc: Global, items: &mut Items<T>, at: usize) -> Result<Items<T>, Memory>
+    ensures rest { OnOk result (items.new ≡ take at items.old) }
+    ensures taken { IfOk result (λ off. off ≡ reverse (drop at items.old)) }
+{
+    let mut off = Items::new(alloc);
+    while items.len() > at {
+        if let Some(last) = items.pop() {
+            off.push(last)?;
+        }
+    }
+    Ok(off)
+}
+
+/// These items with one more at a place, at the end where they are fewer.
+pub fn insert_at<T: Drop>(
+    alloc: Global,
+    items: Items<T>,
+    at: usize,
+    item: T,
+) -> Result<Items<T>, Memory>
+    ensures { IfOk result (λ all. all ≡ take at items ++ item ∷ drop at items) }
+{
+    let mut all = items;
+    let mut behind = take_off(alloc, &mut all, at)?;
+    all.push(item)?;
+    all.append(take_off(alloc, &mut behind, 0)?)?;
     Ok(all)
 }
 

@@ -4,11 +4,12 @@ ghost use Rattle.std.specs.Prelude.{◌≡◌, ◌++◌, ◌∷◌, [], IfOk, no
 ghost use Rattle.std.specs.Option.{option_copied};
 ghost use Rattle.mr_types.specs.declared.row.Schema.TheVariants as schema;
 ghost use Rattle.mr_types.specs.Values.{same_bytes};
-ghost use Rattle.mr_model.specs.Keyed.{table_with, table_without};
+ghost use Rattle.mr_model.specs.Keyed.{table_after as table_behind, table_with, table_without};
 ghost use Rattle.mr_spec.specs.KeyChecks.{is_named as has_name};
 ghost use Rattle.mr_spec.specs.Rows.{table_name as name_of, rows_after as rows_behind};
 ghost use Rattle.mr_spec.specs.Database.{is_table as has_table_name, table_of as table_in, changed as change_done, with_changes as changes_done, with_schema as schema_done, with_body as body_done, with_commits as commits_done, replay as replay_of, schema_table as schema_table_of, defines as defined_by};
 
+use crate::copies::take_off;
 use crate::rows::{copy_rows, rows_after};
 use mr_base::{Blob, Memory};
 use mr_schema::is_same_name;
@@ -56,23 +57,29 @@ pub fn copy_table(alloc: Global, table: &Table) -> Result<Table, Memory>
     })
 }
 
-/// The tables after a change of one row.
-fn changed(alloc: Global, tables: &[Table], change: &Change) -> Result<TableList, Memory>
-    ensures { IfOk result (λ all. all ≡ change_done tables.now change.now) }
+/// A table after a change of a row, of this table or another.
+fn table_after(alloc: Global, table: Table, change: &Change) -> Result<Table, Memory>
+    ensures { IfOk result (λ t. t ≡ table_behind change.now table) }
 {
-    let mut all = TableList::new(alloc);
-    for table in tables {
-        if is_table(table_name(change).as_slice(), table) {
-            let rows = rows_after(alloc, &table.def, table.rows.as_slice(), change)?;
-            all.push(Table {
-                def: table.def.copy(alloc)?,
-                rows,
-            })?;
-        } else {
-            all.push(copy_table(alloc, table)?)?;
-        }
+    if !is_table(table_name(change).as_slice(), &table) {
+        return Ok(table);
     }
-    Ok(all)
+    let Table { def, rows } = table;
+    let rows = rows_after(alloc, &def, rows, change)?;
+    Ok(Table { def, rows })
+}
+
+/// The tables after a change of one row.
+#[tactic(auto, using(crate::proofs::Moved::carried))]
+fn changed(alloc: Global, tables: TableList, change: &Change) -> Result<TableList, Memory>
+    ensures { IfOk result (λ all. all ≡ change_done tables change.now) }
+{
+    let mut before = tables;
+    let mut after = TableList::new(alloc);
+    'tables: while let Some(table) = before.pop() {
+        after.push(table_after(alloc, table, change)?)?;
+    }
+    take_off(alloc, &mut after, 0)
 }
 
 /// A copy of these tables.
@@ -89,14 +96,14 @@ pub fn copy_tables(alloc: Global, tables: &[Table]) -> Result<TableList, Memory>
 /// The tables after these changes.
 pub fn with_changes(
     alloc: Global,
-    tables: &[Table],
+    tables: TableList,
     changes: &[Change],
 ) -> Result<TableList, Memory>
-    ensures { IfOk result (λ all. all ≡ changes_done tables.now changes.now) }
+    ensures { IfOk result (λ all. all ≡ changes_done tables changes.now) }
 {
-    let mut all = copy_tables(alloc, tables)?;
+    let mut all = tables;
     for change in changes {
-        all = changed(alloc, all.as_slice(), change)?;
+        all = changed(alloc, all, change)?;
     }
     Ok(all)
 }
@@ -213,12 +220,13 @@ fn with_schema(alloc: Global, tables: &[Table], change: &Schema) -> Result<Table
 
 // ---- commits
 
-fn with_body(alloc: Global, tables: &[Table], body: &CommitBody) -> Result<TableList, Memory>
-    ensures { IfOk result (λ all. all ≡ body_done tables.now body.now) }
+/// The tables after what a commit has changed.
+pub fn with_body(alloc: Global, tables: TableList, body: &CommitBody) -> Result<TableList, Memory>
+    ensures { IfOk result (λ all. all ≡ body_done tables body.now) }
 {
     match body {
         CommitBody::Rows(changes) => with_changes(alloc, tables, changes.as_slice()),
-        CommitBody::Schema(change) => with_schema(alloc, tables, change),
+        CommitBody::Schema(change) => with_schema(alloc, tables.as_slice(), change),
     }
 }
 
@@ -228,7 +236,7 @@ pub fn replay(alloc: Global, commits: &[Commit]) -> Result<TableList, Memory>
 {
     let mut all = TableList::new(alloc);
     for commit in commits {
-        all = with_body(alloc, all.as_slice(), &commit.body)?;
+        all = with_body(alloc, all, &commit.body)?;
     }
     Ok(all)
 }

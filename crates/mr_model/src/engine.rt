@@ -2,12 +2,13 @@
 //! change.
 
 ghost use Rattle.std.specs.Prelude.{◌≡◌, ◌∷◌, [], codes, OnOk, IfOk};
+ghost use Rattle.mr_spec.specs.Database.{replay as replay_of};
 ghost use Rattle.mr_spec.specs.World.{fresh as fresh_of, using_table};
-ghost use Rattle.mr_spec.specs.Replay.{reopened};
 
 use crate::copies::in_front;
+use crate::database::{copy_tables, with_body};
 use mr_base::{Blob, Memory};
-use mr_spec::{Session, SessionList, Txn};
+use mr_spec::{Session, SessionList, TableList, Txn};
 use mr_types::{ChangeList, Commit, CommitBody, IndexDef};
 use sqlite_items::Items;
 use std::alloc::Global;
@@ -28,15 +29,17 @@ pub struct NextNumber {
 }
 
 /// All that statements look at and change. Of the entries of `building` and `numbers` a table's
-/// first one tells.
+/// first one tells. The tables are those that the commits make.
 #[derive(Drop)]
 pub struct Engine {
     pub commits: Items<Commit>,
+    pub tables: TableList,
     pub here: Session,
     pub others: SessionList,
     pub building: Items<Building>,
     pub numbers: Items<NextNumber>,
     pub moment: u64,
+    pub ghost current: { tables ≡ replay_of commits },
 }
 
 /// A session that was just made.
@@ -53,21 +56,6 @@ impl Engine {
     ghost use Rattle.mr_spec.specs.World.{with_txn, with_commit, with_rows as rows_kept, committed, rolled_back, keeping, entered, with_number, with_building};
     ghost use Rattle.mr_model.specs.Worlds.{world_in};
 
-    /// Without commits: session `main` alone, outside a transaction.
-    pub fn new(alloc: Global) -> Result<Engine, Memory>
-        ensures world { IfOk result (λ e. world_in e ≡ reopened []) }
-        ensures fresh { IfOk result (λ e. e.commits ≡ []) }
-    {
-        Ok(Engine {
-            commits: Items::new(alloc),
-            here: fresh_session(alloc, b"main")?,
-            others: Items::new(alloc),
-            building: Items::new(alloc),
-            numbers: Items::new(alloc),
-            moment: 0,
-        })
-    }
-
     /// The current session has this transaction, or none.
     pub fn set_txn(&mut self, txn: Option<Txn>)
         ensures { world_in self.new ≡ with_txn txn (world_in self.old) }
@@ -75,34 +63,38 @@ impl Engine {
         self.here.txn = txn;
     }
 
-    /// A commit more, at the engine's moment.
-    pub fn commit(&mut self, body: CommitBody) -> Result<(), Memory>
+    /// A commit more, at the engine's moment, and what it makes of the tables.
+    #[tactic(auto, using(crate::proofs::Current::replay_more))]
+    pub fn commit(&mut self, alloc: Global, body: CommitBody) -> Result<(), Memory>
         ensures { OnOk result (world_in self.new ≡ with_commit body (world_in self.old)) }
     {
+        let before = copy_tables(alloc, self.tables.as_slice())?;
+        let tables = with_body(alloc, before, &body)?;
         self.commits.push(Commit {
             moment: self.moment,
             body,
         })?;
+        self.tables = tables;
         Ok(())
     }
 
     /// A commit of these changes; no change is no commit.
-    pub fn commit_rows(&mut self, changes: ChangeList) -> Result<(), Memory>
+    pub fn commit_rows(&mut self, alloc: Global, changes: ChangeList) -> Result<(), Memory>
         ensures { OnOk result (world_in self.new ≡ rows_kept changes (world_in self.old)) }
     {
         if changes.is_empty() {
             return Ok(());
         }
-        self.commit(CommitBody::Rows(changes))
+        self.commit(alloc, CommitBody::Rows(changes))
     }
 
     /// The current transaction, if there is one, is committed.
-    pub fn commit_txn(&mut self) -> Result<(), Memory>
+    pub fn commit_txn(&mut self, alloc: Global) -> Result<(), Memory>
         ensures { OnOk result (world_in self.new ≡ committed (world_in self.old)) }
     {
         match self.here.txn.take() {
             None => Ok(()),
-            Some(txn) => self.commit_rows(txn.changes),
+            Some(txn) => self.commit_rows(alloc, txn.changes),
         }
     }
 
@@ -114,11 +106,11 @@ impl Engine {
     }
 
     /// The changes of a statement: of the transaction, or a commit by themselves.
-    pub fn keep(&mut self, changes: ChangeList) -> Result<(), Memory>
+    pub fn keep(&mut self, alloc: Global, changes: ChangeList) -> Result<(), Memory>
         ensures { OnOk result (world_in self.new ≡ keeping changes (world_in self.old)) }
     {
         match self.here.txn.take() {
-            None => self.commit_rows(changes),
+            None => self.commit_rows(alloc, changes),
             Some(mut txn) => {
                 txn.changes.append(changes)?;
                 self.set_txn(Some(txn));

@@ -9,10 +9,13 @@ mod copies;
 mod cutting;
 mod database;
 mod engine;
+mod index_steps;
 mod inserting;
+mod laws;
 mod listing;
 mod naming;
 mod new_rows;
+mod reopening;
 mod row_steps;
 mod rows;
 mod scene;
@@ -42,6 +45,7 @@ pub use database::{
     copy_table, copy_tables, defines, is_table, replay, table_name, table_of, with_changes,
 };
 pub use engine::{Building, Engine, NextNumber};
+pub use laws::lawful_commits_are_few;
 pub use naming::{known_columns, right_literals};
 pub use rows::{
     clashes, columns_cmp, is_visible, place_of, primary_cmp, rows_after, same_primary, same_unique,

@@ -17,7 +17,6 @@ ghost use Rattle.std.specs.Prelude.{ℕ};
 
 use crate::changes::{delete_changes, insert_changes, replace_changes, update_changes};
 use crate::copies::copy_changes;
-use crate::database::replay;
 use crate::engine::Engine;
 use crate::rows::visible;
 use crate::scene::{Failed, Scene};
@@ -128,10 +127,9 @@ fn start_of(alloc: Global, engine: &Engine, table: &Table) -> Result<Progress, M
 fn are_too_heavy(alloc: Global, engine: &Engine, changes: &[Change]) -> Result<bool, Memory>
     ensures { IfOk result (λ b. b ≡ nat_lt 67108864 (total_weight (replay_of engine.now.commits) (changes_by engine.now.here.txn ++ changes.now))) }
 {
-    let tables = replay(alloc, engine.commits.as_slice())?;
     let mut all = copy_changes(alloc, changes_of_txn(&engine.here.txn))?;
     all.append(copy_changes(alloc, changes)?)?;
-    Ok(is_too_heavy(tables.as_slice(), all.as_slice()))
+    Ok(is_too_heavy(engine.tables.as_slice(), all.as_slice()))
 }
 
 /// 1197 behind the last row: the transaction's changes are too heavy.
@@ -206,7 +204,7 @@ fn after_changes(
     ensures { Gives engine.new result (behind_rows name.now (world_in engine.old) (Ok progress)) }
 {
     engine.set_number(alloc, name, progress.next)?;
-    engine.keep(progress.changes)?;
+    engine.keep(alloc, progress.changes)?;
     Ok(Reply::Ok(progress.count))
 }
 

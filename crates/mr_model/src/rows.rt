@@ -6,6 +6,7 @@ ghost use Rattle.mr_types.specs.Order.{value_cmp as order_of};
 ghost use Rattle.mr_types.specs.Values.{is_null as null_test};
 ghost use Rattle.mr_spec.specs.Rows.{place_of as place_in, kind_at as kind_in, value_at as value_in, columns_cmp as columns_order, primary_cmp as primary_order, same_primary as has_primary, has_null as null_in, same_unique as has_unique, clashes as clash, is_visible as is_seen, visible as seen, placed as placed_in, without as left_without, put as put_in, rows_after as rows_behind};
 
+use crate::copies::insert_at;
 use crate::values::value_cmp;
 use mr_base::Memory;
 use mr_schema::place_in as place_among;
@@ -139,16 +140,20 @@ pub fn visible(alloc: Global, def: &TableDef, moment: u64, rows: &[Row]) -> Resu
 }
 
 /// The rows without any that has the key of this one.
-pub fn without(alloc: Global, def: &TableDef, gone: &Row, rows: &[Row]) -> Result<RowList, Memory>
-    ensures { IfOk result (λ kept. kept ≡ left_without def.now gone.now rows.now) }
+#[tactic(auto, using(crate::proofs::Moved::skipped_row, crate::proofs::Moved::passed_row))]
+pub fn without(def: &TableDef, gone: &Row, rows: RowList) -> RowList
+    ensures { result ≡ left_without def.now gone.now rows }
 {
-    let mut kept = RowList::new(alloc);
-    for row in rows {
-        if !same_primary(def, gone, row) {
-            kept.push(row.copy(alloc)?)?;
+    let mut kept = rows;
+    let mut at = 0;
+    while at < kept.len() {
+        if same_primary(def, gone, &kept.as_slice()[at]) {
+            let _gone = kept.remove(at);
+        } else {
+            at += 1;
         }
     }
-    Ok(kept)
+    kept
 }
 
 /// How many rows stand in front of the place where the row belongs.
@@ -176,32 +181,26 @@ pub fn copy_rows(alloc: Global, rows: &[Row]) -> Result<RowList, Memory>
 }
 
 /// The rows with this one in the place of any that has its key.
-fn put(alloc: Global, def: &TableDef, new: &Row, rows: &[Row]) -> Result<RowList, Memory>
-    ensures { IfOk result (λ all. all ≡ put_in def.now new.now rows.now) }
+fn put(alloc: Global, def: &TableDef, new: &Row, rows: RowList) -> Result<RowList, Memory>
+    ensures { IfOk result (λ all. all ≡ put_in def.now new.now rows) }
 {
-    let others = without(alloc, def, new, rows)?;
+    let others = without(def, new, rows);
     let at = place_for(def, new, others.as_slice());
-    let mut all = copy_rows(alloc, &others.as_slice()[..at])?;
-    all.push(new.copy(alloc)?)?;
-    all.append(copy_rows(alloc, &others.as_slice()[at..])?)?;
-    Ok(all)
+    insert_at(alloc, others, at, new.copy(alloc)?)
 }
 
 /// The rows after a change of their table.
 pub fn rows_after(
     alloc: Global,
     def: &TableDef,
-    rows: &[Row],
+    rows: RowList,
     change: &Change,
 ) -> Result<RowList, Memory>
-    ensures { IfOk result (λ all. all ≡ rows_behind def.now rows.now change.now) }
+    ensures { IfOk result (λ all. all ≡ rows_behind def.now rows change.now) }
 {
     match change {
         Change::Insert { new, .. } => put(alloc, def, new, rows),
-        Change::Update { old, new, .. } => {
-            let others = without(alloc, def, old, rows)?;
-            put(alloc, def, new, others.as_slice())
-        }
-        Change::Delete { old, .. } => without(alloc, def, old, rows),
+        Change::Update { old, new, .. } => put(alloc, def, new, without(def, old, rows)),
+        Change::Delete { old, .. } => Ok(without(def, old, rows)),
     }
 }

@@ -1,26 +1,28 @@
 //! The run of a script.
 
-ghost use Rattle.std.specs.Prelude.{◌≡◌, ◌++◌, OnOk, IfOk};
+ghost use Rattle.std.specs.Prelude.{◌≡◌, ◌++◌, [], OnOk, OnErr, IfOk};
 ghost use Rattle.mr_model.specs.Few.{FewColumns};
-ghost use Rattle.mr_model.specs.Running.{IsRunFrom, IsRun};
+ghost use Rattle.mr_model.specs.Running.{IsRunFrom, IsRun, IsSpent, IsPartlySpent};
 ghost use Rattle.mr_model.specs.Worlds.{world_in};
 ghost use Rattle.mr_spec.specs.ReplyText.{text_of};
-ghost use Rattle.mr_spec.specs.ScriptRun.{is_refusal as refusal_of};
+ghost use Rattle.mr_spec.specs.ScriptRun.{is_refusal as refusal_of, statements_of as statements_in};
 
 use crate::cutting::{Read, statements_of};
 use crate::engine::Engine;
 use crate::statement_step::step;
 use mr_base::{Blob, Clock, Memory};
 use mr_print::reply_text;
-use mr_types::Reply;
+use mr_types::{Commit, Reply};
+use sqlite_items::Items;
 use std::alloc::Global;
 
-/// What a script's run gave: the texts of its replies, one after the other, and whether one of them
-/// was an `ERROR`.
+/// What a script's run gave: the texts of its replies, one after the other, whether one of them was
+/// an `ERROR`, and the commits from before with those that it appended.
 #[derive(Drop)]
 pub struct Ran {
     pub output: Blob,
     pub failed: bool,
+    pub commits: Items<Commit>,
 }
 
 /// The engine, and what the statements so far gave.
@@ -46,7 +48,7 @@ fn print(alloc: Global, output: &mut Vec<u8>, reply: &Reply) -> Result<(), Memor
 }
 
 impl Player {
-    ghost use Rattle.mr_model.specs.Running.{IsServed};
+    ghost use Rattle.mr_model.specs.Running.{IsServed, IsTaken};
 
     /// One statement, at the clock's next value.
     fn serve<C: Clock>(
@@ -58,6 +60,7 @@ impl Player {
         requires few { FewColumns self.old.engine.commits }
         ensures served { OnOk result (IsServed (C.clock clock.old) (C.clock clock.new) self.old self.new statement.now) }
         ensures few { OnOk result (FewColumns self.new.engine.commits) }
+        ensures taken { IsTaken (C.clock clock.old) (C.clock clock.new) }
     {
         let value = clock.now();
         let reply = step(alloc, &mut self.engine, statement, value)?;
@@ -75,7 +78,10 @@ fn run_from<C: Clock>(
     clock: &mut C,
 ) -> Result<Ran, Memory>
     requires few { FewColumns engine.commits }
-    ensures { IfOk result (λ ran. IsRunFrom (world_in engine) statements.now (C.clock clock.old) ran) }
+    ensures run { IfOk result (λ ran. IsRunFrom (world_in engine) statements.now (C.clock clock.old) ran) }
+    ensures values { OnOk result (IsSpent (C.clock clock.old) (C.clock clock.new) statements.now []) }
+    ensures at_most { OnErr result (IsPartlySpent (C.clock clock.old) (C.clock clock.new) statements.now) }
+    ensures few { IfOk result (λ ran. FewColumns ran.commits) }
 {
     let mut player = Player {
         engine,
@@ -85,17 +91,34 @@ fn run_from<C: Clock>(
     for statement in statements {
         player.serve(alloc, clock, statement)?;
     }
+    let Player {
+        engine,
+        output,
+        failed,
+    } = player;
     Ok(Ran {
-        output: Blob::from_vec(player.output),
-        failed: player.failed,
+        output: Blob::from_vec(output),
+        failed,
+        commits: engine.commits,
     })
 }
 
-/// The run of a script where no commit was before.
-pub fn run_script<C: Clock>(alloc: Global, script: &[u8], clock: &mut C) -> Result<Ran, Memory>
-    ensures { IfOk result (λ ran. IsRun script.now (C.clock clock.old) ran) }
+/// The run of a script where these commits were before. It takes one value of the clock a statement,
+/// and no more where memory runs out.
+#[tactic(auto, using(crate::proofs::RunSteps::none_served))]
+pub fn run_script<C: Clock>(
+    alloc: Global,
+    commits: Items<Commit>,
+    script: &[u8],
+    clock: &mut C,
+) -> Result<Ran, Memory>
+    requires few { FewColumns commits }
+    ensures run { IfOk result (λ ran. IsRun commits script.now (C.clock clock.old) ran) }
+    ensures values { OnOk result (IsSpent (C.clock clock.old) (C.clock clock.new) (statements_in script.now) []) }
+    ensures at_most { OnErr result (IsPartlySpent (C.clock clock.old) (C.clock clock.new) (statements_in script.now)) }
+    ensures few { IfOk result (λ ran. FewColumns ran.commits) }
 {
     let statements = statements_of(alloc, script)?;
-    let engine = Engine::new(alloc)?;
+    let engine = Engine::reopened(alloc, commits)?;
     run_from(alloc, engine, statements.as_slice(), clock)
 }

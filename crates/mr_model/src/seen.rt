@@ -1,6 +1,6 @@
 //! What the current session sees: commits, tables and rows, and the changes that it must not meet.
 
-ghost use Rattle.std.specs.Prelude.{◌≡◌, min, take, length, IfOk};
+ghost use Rattle.std.specs.Prelude.{◌≡◌, min, take, length, IfOk, IsTrue};
 ghost use Rattle.std.specs.List.{list_any};
 ghost use Rattle.mr_spec.specs.Database.{defines as defined_by, changes_in as changes_of_body, changes_of as changes_of_commits, on_table as of_table};
 ghost use Rattle.mr_spec.specs.World.{seen_by, changes_by, view_of, later_commits as later_of, is_stale as has_stale, held_changes as changes_held};
@@ -8,7 +8,7 @@ ghost use Rattle.mr_spec.specs.RowSteps.{rows_seen as rows_in_view};
 ghost use Rattle.mr_model.specs.Worlds.{world_in};
 
 use crate::copies::{copy_change, copy_changes};
-use crate::database::{defines, replay, table_name, table_of, with_changes};
+use crate::database::{copy_tables, defines, replay, table_name, table_of, with_changes};
 use crate::engine::Engine;
 use crate::rows::copy_rows;
 use mr_base::Memory;
@@ -28,6 +28,15 @@ fn seen_count(txn: &Option<Txn>, all: usize) -> usize
             Some(snapshot) => min(snapshot as usize, all),
         },
     }
+}
+
+/// Whether the current session sees all commits.
+#[tactic(auto, using(crate::proofs::Current::all_seen))]
+fn sees_all(engine: &Engine) -> bool
+    ensures { IsTrue result → take (seen_by engine.now.here.txn (length engine.now.commits)) engine.now.commits ≡ engine.now.commits }
+{
+    let all = engine.commits.len();
+    seen_count(&engine.here.txn, all) == all
 }
 
 /// The commits that the current session sees.
@@ -75,8 +84,13 @@ pub fn changes_of_txn(txn: &Option<Txn>) -> &[Change]
 fn view(alloc: Global, engine: &Engine) -> Result<TableList, Memory>
     ensures { IfOk result (λ all. all ≡ view_of engine.now.commits engine.now.here.txn) }
 {
-    let tables = replay(alloc, seen_commits(engine))?;
-    with_changes(alloc, tables.as_slice(), changes_of_txn(&engine.here.txn))
+    let changes = changes_of_txn(&engine.here.txn);
+    let tables = if sees_all(engine) {
+        copy_tables(alloc, engine.tables.as_slice())?
+    } else {
+        replay(alloc, seen_commits(engine))?
+    };
+    with_changes(alloc, tables, changes)
 }
 
 /// The rows of a table in the current session's view, expired ones too.

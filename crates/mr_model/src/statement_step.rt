@@ -9,11 +9,9 @@ ghost use Rattle.mr_model.specs.Worlds.{world_in};
 
 use crate::cutting::Read;
 use crate::engine::Engine;
+use crate::index_steps::{begin_index, cancel_index, create_index, drop_index, finish_index};
 use crate::row_steps::{Writing, answered, select, write};
-use crate::schema_steps::{
-    begin_index, cancel_index, create_index, create_table, drop_index, drop_table, finish_index,
-    lock_tables,
-};
+use crate::schema_steps::{create_table, drop_table, lock_tables};
 use crate::session_steps::{begin, disconnect, release, roll_back_to, savepoint, session};
 use mr_base::Memory;
 use mr_types::{Reply, Statement};
@@ -38,10 +36,10 @@ fn commits_first(statement: &Statement) -> bool
 }
 
 /// COMMIT.
-fn commit(engine: &mut Engine) -> Result<Reply, Memory>
+fn commit(alloc: Global, engine: &mut Engine) -> Result<Reply, Memory>
     ensures { Gives engine.new result (outcome_in_world kinds.Commit (world_in engine.old)) }
 {
-    engine.commit_txn()?;
+    engine.commit_txn(alloc)?;
     Ok(Reply::Ok(0))
 }
 
@@ -107,7 +105,7 @@ fn outcome_of(alloc: Global, engine: &mut Engine, statement: &Statement) -> Resu
         ),
         Statement::Select(statement) => select(alloc, engine, statement),
         Statement::Begin { snapshot } => Ok(begin(alloc, engine, *snapshot)),
-        Statement::Commit => commit(engine),
+        Statement::Commit => commit(alloc, engine),
         Statement::Rollback => Ok(roll_back(engine)),
         Statement::RollbackTo(name) => answered(roll_back_to(alloc, engine, name.as_slice())),
         Statement::Savepoint(name) => savepoint(alloc, engine, name.as_slice()),
@@ -121,11 +119,11 @@ fn outcome_of(alloc: Global, engine: &mut Engine, statement: &Statement) -> Resu
 }
 
 /// With an open transaction committed, where the statement does so.
-fn begin_statement(engine: &mut Engine, statement: &Statement) -> Result<(), Memory>
+fn begin_statement(alloc: Global, engine: &mut Engine, statement: &Statement) -> Result<(), Memory>
     ensures { OnOk result (world_in engine.new ≡ begun statement.now (world_in engine.old)) }
 {
     if commits_first(statement) {
-        engine.commit_txn()?;
+        engine.commit_txn(alloc)?;
     }
     Ok(())
 }
@@ -145,7 +143,7 @@ pub fn step(
     match statement {
         Err(code) => Ok(Reply::Refused(*code)),
         Ok(statement) => {
-            begin_statement(engine, statement)?;
+            begin_statement(alloc, engine, statement)?;
             outcome_of(alloc, engine, statement)
         }
     }

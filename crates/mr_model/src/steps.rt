@@ -12,7 +12,7 @@ ghost use Rattle.mr_spec.specs.Rows.{clashes as clash, rows_after as rows_behind
 
 use crate::claims::has_claim_in;
 use crate::new_rows::next_behind;
-use crate::rows::{clashes, copy_rows, rows_after, visible};
+use crate::rows::{clashes, rows_after, visible};
 use crate::scene::Scene;
 use mr_base::Memory;
 use mr_spec::{Progress, RowList};
@@ -85,14 +85,14 @@ pub(crate) fn alone(alloc: Global, change: Change) -> Result<ChangeList, Memory>
 fn rows_after_all(
     alloc: Global,
     def: &TableDef,
-    rows: &[Row],
+    rows: RowList,
     made: &[Change],
 ) -> Result<RowList, Memory>
-    ensures { IfOk result (λ all. all ≡ fold (rows_behind def.now) rows.now made.now) }
+    ensures { IfOk result (λ all. all ≡ fold (rows_behind def.now) rows made.now) }
 {
-    let mut all = copy_rows(alloc, rows)?;
+    let mut all = rows;
     for change in made {
-        all = rows_after(alloc, def, all.as_slice(), change)?;
+        all = rows_after(alloc, def, all, change)?;
     }
     Ok(all)
 }
@@ -108,7 +108,7 @@ pub(crate) fn advanced(
 ) -> Result<Progress, Memory>
     ensures { IfOk result (λ g. g ≡ gone_on (scene_in scene.now) made count so_far) }
 {
-    let rows = rows_after_all(alloc, scene.def, so_far.rows.as_slice(), made.as_slice())?;
+    let rows = rows_after_all(alloc, scene.def, so_far.rows, made.as_slice())?;
     let Some(count) = so_far.count.checked_add(count) else {
         return Err(Memory);
     };

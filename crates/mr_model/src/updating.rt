@@ -59,7 +59,7 @@ fn other_rows(alloc: Global, scene: &Scene, old: &Row, so_far: &Progress) -> Res
     ensures { IfOk result (λ rows. rows ≡ rows_without scene.now.def.now old.now (rows_seen (scene_in scene.now) so_far.now)) }
 {
     let seen = seen_rows(alloc, scene, so_far)?;
-    without(alloc, scene.def, old, seen.as_slice())
+    Ok(without(scene.def, old, seen))
 }
 
 /// An old row becomes a new one: 1205, 1213, and 1062 where another visible row has the values of

@@ -7,11 +7,11 @@ ghost use Rattle.mr_types.specs.Values.{Answers, same_bytes};
 ghost use Rattle.mr_spec.specs.Database.{table_of as table_found, replay as replay_of};
 ghost use Rattle.mr_spec.specs.World.{has_used as used_by};
 ghost use Rattle.mr_spec.specs.SchemaSteps.{table_in as table_there, used_elsewhere as used_by_others};
-ghost use Rattle.mr_model.specs.Worlds.{world_in};
+ghost use Rattle.mr_model.specs.Worlds.{numbers_in, world_in};
 ghost use Rattle.mr_model.specs.Few.{FewColumns};
 
-use crate::database::{copy_table, replay, table_of};
-use crate::engine::Engine;
+use crate::database::{copy_table, table_of};
+use crate::engine::{Engine, NextNumber};
 use mr_base::{Blob, Memory};
 use mr_spec::{Session, Table};
 use mr_types::{IndexDef, Refused};
@@ -21,8 +21,7 @@ use std::alloc::Global;
 pub fn committed_table(alloc: Global, engine: &Engine, name: &[u8]) -> Result<Option<Table>, Memory>
     ensures { IfOk result (λ t. t ≡ table_found name.now (replay_of engine.now.commits)) }
 {
-    let tables = replay(alloc, engine.commits.as_slice())?;
-    match table_of(name, tables.as_slice()) {
+    match table_of(name, engine.tables.as_slice()) {
         None => Ok(None),
         Some(table) => Ok(Some(copy_table(alloc, table)?)),
     }
@@ -52,16 +51,23 @@ pub fn building_of<'a>(engine: &'a Engine, table: &[u8]) -> Option<&'a IndexDef>
     None
 }
 
-/// The table's next hidden number.
-pub fn number_of(engine: &Engine, table: &[u8]) -> u64
-    ensures { result ≡ (world_in engine.now).numbers table.now }
+/// The next hidden number of a table among these.
+pub fn number_among(numbers: &[NextNumber], table: &[u8]) -> u64
+    ensures { result ≡ numbers_in numbers.now table.now }
 {
-    for entry in engine.numbers.as_slice() {
+    for entry in numbers {
         if table == entry.table.as_slice() {
             return entry.number;
         }
     }
     1
+}
+
+/// The table's next hidden number.
+pub fn number_of(engine: &Engine, table: &[u8]) -> u64
+    ensures { result ≡ (world_in engine.now).numbers table.now }
+{
+    number_among(engine.numbers.as_slice(), table)
 }
 
 fn is_among(name: &[u8], names: &[Blob]) -> bool

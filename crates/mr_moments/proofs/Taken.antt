@@ -1,13 +1,11 @@
 -- What `clap` finds in one option with a value.
-use Rattle.std.proofs.Common.{◌≡◌, ℕ, List, [], ◌∷◌, ◌++◌, refl, sym, ap₂, subst, codes, true, false, Some, None, Option, inl, inr, length, ◌<◌, arith}
-use Rattle.std.specs.Option.{option_map_or, option_or}
-use Rattle.std.proofs.lemmas.Bool.{or_cases, or_parts}
+use Rattle.std.proofs.Common.{◌≡◌, ℕ, List, [], ◌∷◌, ◌++◌, refl, sym, ap₂, subst, codes, true, false, Some, None, inl, inr}
+use Rattle.std.proofs.lemmas.Bool.{or_cases}
 use Rattle.std.proofs.lemmas.Bool.Decides.{eqb_tells}
 use Rattle.clap.specs.Words.{takes, is_simple, matches_of, first_of}
 use Rattle.clap.proofs.OnLiterals.{clap_on_literals}
 use Rattle.mr_moments.specs.Command.{app}
-use Rattle.mr_moments.specs.declared.source.Moments.{Moments}
-use Rattle.mr_moments.specs.Form.{has_behind, is_filled, are_option, value_of, behind, said, said_now, said_clock, moments_of}
+use Rattle.mr_moments.specs.Form.{has_behind, are_option, value_of}
 
 pub simple_app : is_simple app ≡ true
 unfolding clap_on_literals

@@ -19,10 +19,9 @@ abbrev pub with_digits : ℕ → List ℕ → Option ℕ
 with_digits n [] = Some n
 with_digits n (b ∷ bs) = option_and_then (λ m. with_digits m bs) (with_digit n b)
 
--- one decimal digit or more
+-- 1 to 20 decimal digits
 abbrev pub seconds_of : List ℕ → Option ℕ
-seconds_of [] = None
-seconds_of (b ∷ bs) = with_digits 0 (b ∷ bs)
+seconds_of text = if nat_lt 0 (length text) && nat_le (length text) 20 then with_digits 0 text else None
 
 -- ---- lists
 

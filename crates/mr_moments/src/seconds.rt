@@ -7,6 +7,9 @@ use mr_base::Memory;
 use sqlite_items::Items;
 use std::alloc::Global;
 
+/// How many digits a number of seconds has at the most.
+const MOST_DIGITS: usize = 20;
+
 /// The number with one more digit behind it; None where it is no digit, or the number reaches 2^64.
 fn with_digit(number: u64, byte: u8) -> Option<u64>
     ensures { result ≡ and_digit number byte }
@@ -21,11 +24,11 @@ fn with_digit(number: u64, byte: u8) -> Option<u64>
     Some(next as u64)
 }
 
-/// The number that one decimal digit or more write; None where it reaches 2^64.
+/// The number that 1 to 20 decimal digits write; None where it reaches 2^64.
 pub fn seconds_of(text: &[u8]) -> Option<u64>
     ensures { result ≡ seconds_in text.now }
 {
-    if text.is_empty() {
+    if text.is_empty() || text.len() > MOST_DIGITS {
         return None;
     }
     let mut number = 0;

@@ -6,15 +6,18 @@ use std::alloc::Global;
 use std::test::Fail;
 
 /// The words, parted by spaces, and the moments that they give.
-const GIVEN: [(&str, &[u64]); 5] = [
+const GIVEN: [(&str, &[u64]); 6] = [
     ("--now=0", &[0]),
     ("--now=007", &[7]),
+    ("--now=00000000000000000007", &[7]),
     ("--now=18446744073709551615", &[u64::MAX]),
     ("--clock=50,40,40", &[50, 40, 40]),
     ("--clock=7", &[7]),
 ];
 
-const WRONG: [&str; 16] = [
+const WRONG: [&str; 18] = [
+    "--now=000000000000000000007",
+    "--clock=5,000000000000000000007",
     "--now=",
     "--now",
     "--now 5",

@@ -179,3 +179,77 @@ pub const ROWS: [Row; 28] = [
         replies: b"OK 0\nOK 3\nOK 0\nOK 0\nOK 0\nOK 0\nOK 0\nOK 1\nOK 0\nOK 1\nOK 0\nOK 0\nOK 0\nOK 2\nOK 0\nOK 0\nOK 0\nOK 0\nOK 0\nOK 0\nOK 1\n",
     },
 ];
+
+/// Scripts on the commits of others.
+pub const REOPENED: [(Row, Row); 5] = [
+    (
+        Row {
+            what: "before",
+            moments: &[7],
+            script: b"CREATE TABLE t (id BIGINT NOT NULL, v BIGINT, PRIMARY KEY (id)); INSERT INTO t VALUES (1,7); BEGIN INDEX k ON t (v); WORK 1; SESSION a; INSERT INTO t VALUES (2,7);",
+            replies: b"OK 0\nOK 1\nOK 0\nOK 0\nOK 0\nOK 1\n",
+        },
+        Row {
+            what: "an index that was not finished",
+            moments: &[7],
+            script: b"SELECT id FROM t FORCE INDEX (k); SELECT id FROM t;",
+            replies: b"ERROR 1176\nROWS 2\n1\n2\n",
+        },
+    ),
+    (
+        Row {
+            what: "before",
+            moments: &[7],
+            script: b"CREATE TABLE t (id BIGINT NOT NULL, v BIGINT, PRIMARY KEY (id)); INSERT INTO t VALUES (1,7); BEGIN INDEX k ON t (v); WORK 1; SESSION a; INSERT INTO t VALUES (2,7); FINISH INDEX k ON t;",
+            replies: b"OK 0\nOK 1\nOK 0\nOK 0\nOK 0\nOK 1\nOK 0\n",
+        },
+        Row {
+            what: "an index that was finished",
+            moments: &[7],
+            script: b"SELECT id FROM t FORCE INDEX (k) WHERE v=7;",
+            replies: b"ROWS 2\n1\n2\n",
+        },
+    ),
+    (
+        Row {
+            what: "before",
+            moments: &[50, 40, 40],
+            script: b"CREATE TABLE e (id INT NOT NULL, PRIMARY KEY (id)) COMMENT='ttl_duration=10;'; INSERT INTO e VALUES (1); SELECT COUNT(*) FROM e;",
+            replies: b"OK 0\nOK 1\nROWS 1\n1\n",
+        },
+        Row {
+            what: "a stamp of the moment",
+            moments: &[59, 60],
+            script: b"SELECT COUNT(*) FROM e; SELECT COUNT(*) FROM e;",
+            replies: b"ROWS 1\n1\nROWS 1\n0\n",
+        },
+    ),
+    (
+        Row {
+            what: "before",
+            moments: &[7],
+            script: b"CREATE TABLE t (id BIGINT NOT NULL, v BIGINT, PRIMARY KEY (id)); BEGIN; INSERT INTO t VALUES (1,2); SESSION a; INSERT INTO t VALUES (2,2); SAVEPOINT p;",
+            replies: b"OK 0\nOK 0\nOK 1\nOK 0\nOK 1\nOK 0\n",
+        },
+        Row {
+            what: "an open transaction",
+            moments: &[7],
+            script: b"SELECT * FROM t; INSERT INTO t VALUES (1,3);",
+            replies: b"ROWS 1\n2\t2\nOK 1\n",
+        },
+    ),
+    (
+        Row {
+            what: "before",
+            moments: &[7],
+            script: b"CREATE TABLE g (a INT NOT NULL); INSERT INTO g VALUES (3),(1); DELETE FROM g WHERE a=1; INSERT INTO g VALUES (4);",
+            replies: b"OK 0\nOK 2\nOK 1\nOK 1\n",
+        },
+        Row {
+            what: "hidden numbers go on",
+            moments: &[7],
+            script: b"INSERT INTO g VALUES (2),(1); SELECT * FROM g;",
+            replies: b"OK 2\nROWS 4\n3\n4\n2\n1\n",
+        },
+    ),
+];

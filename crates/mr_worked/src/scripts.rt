@@ -1,8 +1,9 @@
 //! Worked scripts, run by the plain program.
 
-use crate::replies::ROWS;
+use crate::replies::{REOPENED, ROWS, Row};
 use mr_base::{Clock, Memory};
 use mr_model::run_script;
+use sqlite_items::Items;
 use std::alloc::Global;
 use std::test::Fail;
 
@@ -30,7 +31,12 @@ impl Clock for Values<'_> {
 
 /// Whether the run of a script gives these replies, where the clock gives these values.
 fn gives(alloc: Global, values: &[u64], script: &[u8], replies: &[u8]) -> Result<bool, Memory> {
-    let ran = run_script(alloc, script, &mut Values { left: values })?;
+    let ran = run_script(
+        alloc,
+        Items::new(alloc),
+        script,
+        &mut Values { left: values },
+    )?;
     Ok(ran.output.as_slice() == replies)
 }
 
@@ -42,6 +48,25 @@ fn scripts_have_their_replies(rt: HostRuntime) -> Result<(), Fail> {
             "{}",
             row.what
         );
+    }
+    Ok(())
+}
+
+/// Whether the second script gives its replies on the commits of the first.
+fn gives_reopened(alloc: Global, before: &Row, row: &Row) -> Result<bool, Memory> {
+    let mut values = Values {
+        left: before.moments,
+    };
+    let ran = run_script(alloc, Items::new(alloc), before.script, &mut values)?;
+    let mut values = Values { left: row.moments };
+    let again = run_script(alloc, ran.commits, row.script, &mut values)?;
+    Ok(ran.output.as_slice() == before.replies && again.output.as_slice() == row.replies)
+}
+
+#[test]
+fn reopened_scripts_have_their_replies(rt: HostRuntime) -> Result<(), Fail> {
+    for (before, row) in &REOPENED {
+        assert!(rt; gives_reopened(rt.alloc(), before, row)?, "{}", row.what);
     }
     Ok(())
 }
@@ -65,7 +90,7 @@ fn statements_are_too_long(rt: HostRuntime) -> Result<(), Fail> {
 
 /// Whether some reply of the script is an `ERROR`.
 fn fails(alloc: Global, script: &[u8]) -> Result<bool, Memory> {
-    Ok(run_script(alloc, script, &mut Values { left: &[] })?.failed)
+    Ok(run_script(alloc, Items::new(alloc), script, &mut Values { left: &[] })?.failed)
 }
 
 #[test]

@@ -3,4 +3,4 @@ use Rattle.mr_spec.specs.Database.{with_changes}
 use Rattle.mr_model.proofs.database.with_changes.Given as goal
 
 abbrev pub invariant-loop-change : goal.invariant-loop-change
-invariant-loop-change l = with_changes l.all (drop l.change-index l.changes) ≡ with_changes l.tables l.changes
+invariant-loop-change l = with_changes l.all (drop l.change-index l.changes) ≡ with_changes l.fn.tables l.changes

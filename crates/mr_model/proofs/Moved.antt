@@ -1,0 +1,62 @@
+-- Items that move out of a list and back, one after the other.
+use Rattle.std.proofs.Common.{◌≡◌, ◌≤◌, ◌<◌, ℕ, ◌+◌, not-suc-le-zero, add-one, le_of_suc-le-suc, le_trans, le_of_eq, le-add_right, Bool, false, true, not, zero, suc, List, [], ◌∷◌, ◌++◌, if◌then◌else◌, length, take, drop, filter, map, min, reverse, remove, slice_index_or, length-append, append_assoc, le_antisymm, sym, ap, subst, ◌∙◌}
+use Rattle.mr_types.specs.declared.row.Row.{Row}
+use Rattle.mr_types.specs.declared.definition.TableDef.{TableDef}
+use Rattle.mr_spec.specs.Rows.{same_primary, without}
+use Rattle.std.proofs.Math.Nat.{le-min}
+use Rattle.std.proofs.Math.Seq.{take-append_seam, drop-append_seam}
+use Rattle.std.proofs.lemmas.List.{take_min, drop_min, map-append, reverse-append, reverse-reverse}
+
+-- an item that doesn't pass is taken out
+skipped : {X : Type 0} (p : X → Bool) (n : ℕ) (xs : List X) (x : X) → n < length xs → x ≡ slice_index_or xs n x → p x ≡ false → take n (remove xs n) ++ filter p (drop n (remove xs n)) ≡ take n xs ++ filter p (drop n xs)
+skipped p n [] x h i e = absurd (not-suc-le-zero h)
+skipped p zero (y ∷ ys) x h i e = sym (ap (λ b. if b then y ∷ filter p ys else filter p ys) (ap p (sym i) ∙ e))
+skipped p (suc n) (y ∷ ys) x h i e = ap (λ l. y ∷ l) (skipped p n ys x (le_of_suc-le-suc h) i e)
+
+-- one that does stays
+passed : {X : Type 0} (p : X → Bool) (n : ℕ) (xs : List X) (x : X) → n < length xs → x ≡ slice_index_or xs n x → p x ≡ true → take (suc n) xs ++ filter p (drop (suc n) xs) ≡ take n xs ++ filter p (drop n xs)
+passed p n [] x h i e = absurd (not-suc-le-zero h)
+passed p zero (y ∷ ys) x h i e = sym (ap (λ b. if b then y ∷ filter p ys else filter p ys) (ap p (sym i) ∙ e))
+passed p (suc n) (y ∷ ys) x h i e = ap (λ l. y ∷ l) (passed p n ys x (le_of_suc-le-suc h) i e)
+
+-- the same for rows that have another's key, and for those that don't
+pub skipped_row : (def : TableDef) (gone : Row) (n : ℕ) (rows : List Row) (row : Row) → n < length rows → row ≡ slice_index_or rows n row → true ≡ same_primary def gone row → take n (remove rows n) ++ without def gone (drop n (remove rows n)) ≡ take n rows ++ without def gone (drop n rows)
+skipped_row def gone n rows row h i e = skipped (λ r. not (same_primary def gone r)) n rows row h i (sym (ap not e))
+
+pub passed_row : (def : TableDef) (gone : Row) (n : ℕ) (rows : List Row) (row : Row) → n < length rows → row ≡ slice_index_or rows n row → false ≡ same_primary def gone row → take (n + 1) rows ++ without def gone (drop (n + 1) rows) ≡ take n rows ++ without def gone (drop n rows)
+passed_row def gone n rows row h i e = subst (λ m. take m rows ++ without def gone (drop m rows) ≡ take n rows ++ without def gone (drop n rows)) (sym (add-one n)) (passed (λ r. not (same_primary def gone r)) n rows row h i (sym (ap not e)))
+
+-- ---- from the end
+
+-- the last item of one list goes behind the other, which is read from its end
+pub carried : {X Y : Type 0} (f : X → Y) (xs before : List X) (after : List Y) (x : X) → xs ≡ before ++ x ∷ [] → map f before ++ reverse (after ++ f x ∷ []) ≡ map f xs ++ reverse after
+carried f xs before after x e =
+    ap (λ l. map f before ++ l) (reverse-append after (f x ∷ []))
+    ∙ sym (append_assoc (map f before) (f x ∷ []) (reverse after))
+    ∙ ap (λ l. l ++ reverse after) (sym (map-append f before (x ∷ [])) ∙ ap (map f) (sym e))
+
+-- and as it is
+pub popped : {X : Type 0} (xs before after : List X) (x : X) → xs ≡ before ++ x ∷ [] → before ++ reverse (after ++ x ∷ []) ≡ xs ++ reverse after
+popped xs before after x e =
+    ap (λ l. before ++ l) (reverse-append after (x ∷ []))
+    ∙ sym (append_assoc before (x ∷ []) (reverse after))
+    ∙ ap (λ l. l ++ reverse after) (sym e)
+
+-- when as many are left as stand in front of the place
+exact : {X : Type 0} (xs off whole : List X) (at : ℕ) → xs ++ reverse off ≡ whole → length xs ≤ at → min at (length whole) ≤ length xs → min at (length whole) ≡ length xs
+exact xs off whole at e low enough = le_antisymm enough (le-min low (le_trans (le-add_right (length xs) (length (reverse off))) (le_of_eq (sym (length-append xs (reverse off)) ∙ ap length e))))
+
+pub rest_of : {X : Type 0} (xs off whole : List X) (at : ℕ) → xs ++ reverse off ≡ whole → length xs ≤ at → min at (length whole) ≤ length xs → xs ≡ take at whole
+rest_of xs off whole at e low enough =
+    sym (take-append_seam xs (reverse off))
+    ∙ ap (take (length xs)) e
+    ∙ ap (λ n. take n whole) (sym (exact xs off whole at e low enough))
+    ∙ take_min at whole
+
+pub taken : {X : Type 0} (xs off whole : List X) (at : ℕ) → xs ++ reverse off ≡ whole → length xs ≤ at → min at (length whole) ≤ length xs → off ≡ reverse (drop at whole)
+taken xs off whole at e low enough =
+    sym (reverse-reverse off)
+    ∙ ap reverse (sym (drop-append_seam xs (reverse off))
+    ∙ ap (drop (length xs)) e
+    ∙ ap (λ n. drop n whole) (sym (exact xs off whole at e low enough))
+    ∙ drop_min at whole)
