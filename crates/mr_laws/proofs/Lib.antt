@@ -1,0 +1,5 @@
+pub mod Colliding
+pub mod Leaving
+pub mod Numbers
+pub mod Parking
+pub mod Staying
