@@ -18,6 +18,9 @@ use Rattle.mr_spec.specs.ScriptRun.{world_after}
 use Rattle.mr_spec.specs.Promises.{Extends}
 use Rattle.mr_spec.proofs.Results.{behind}
 use Rattle.mr_spec.proofs.Commits.{further-step}
+use Rattle.std.specs.Prelude.{codes}
+use Rattle.mr_types.specs.declared.row.Reply.TheVariants as reply
+use Rattle.mr_spec.specs.Step.{step}
 use Rattle.mr_laws.specs.Snapshots.{AreWithin}
 use Rattle.mr_laws.proofs.Staying.{Follows, Origin, Keeps, snapshot_of, keeps-step, others-committed}
 
@@ -70,6 +73,21 @@ found-or P p (x ∷ xs) d h all = found-cases P (p x) x (find p xs) d (All-head 
 
 pub others-parked : (name : List ℕ) (sessions : List Session) (w : World) (x : Session) → Contains sessions x → is_session name x ≡ false → Contains (turned_to name sessions w).others x
 others-parked name sessions w x at e = contains-filter (λ s. not (is_session name s)) sessions x (ap not e) at
+
+-- an answer that isn't refused has what its outcome has
+not-refused : (P : Outcome → Type 0) (u : World) (r : Result Outcome ℕ) (n : ℕ) → IfOk r P → (answered u r).reply ≡ reply.Ok n → P (answered u r)
+not-refused P u (Ok o) n h e = h
+not-refused P u (Err code) n h e = absurd cc
+
+-- SESSION turns to the session of its name among all open ones
+abbrev Turns : World → List ℕ → ℕ → Outcome → Type 0
+Turns w name clock o = o.world ≡ turned_to name (w.here ∷ w.others) (timed w clock)
+
+session-answers : (w : World) (name : List ℕ) (clock : ℕ) → IfOk (session_outcome (timed w clock) name) (Turns w name clock)
+session-answers w name clock = search (behind)
+
+pub session-turns : (w : World) (name : List ℕ) (clock n : ℕ) → (step w (Ok (statement.Session name)) clock).reply ≡ reply.Ok n → world_after w (Ok (statement.Session name)) clock ≡ turned_to name (w.here ∷ w.others) (timed w clock)
+session-turns w name clock n e = not-refused (Turns w name clock) (timed w clock) (session_outcome (timed w clock) name) n (session-answers w name clock) e
 
 -- the snapshot of its transaction, where it is fixed, is of at most so many commits
 abbrev pub IsBelow : ℕ → Session → Type 0
