@@ -22,4 +22,4 @@ abbrev text_v : TableText
 text_v = record { name = codes "v"; columns = column (codes "id") written.BigInt false ∷ column (codes "n") (written.VarChar 9 Ci) true ∷ []; keys = primary_key (codes "id" ∷ []) ∷ unique_key (codes "w") (codes "n" ∷ []) ∷ []; comment = [] }
 
 pub made-lawful : IsLawful made
-made-lawful = (lit≤ tt, (refl, (text_v, refl, refl)), (lit≤ tt, (refl, lit≤ tt), (lit≤ tt, (refl, lit≤ tt), tt)))
+made-lawful = (lit≤ tt, (refl, (text_v, refl, refl)), (lit≤ tt, (lit≤ tt, refl, lit≤ tt), (lit≤ tt, (lit≤ tt, refl, lit≤ tt), tt)))

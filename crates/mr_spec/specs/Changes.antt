@@ -18,27 +18,35 @@ use Rattle.mr_spec.specs.Setting.{with_item, same_fields, updated_row, update_te
 
 -- ---- one row
 
--- a tuple of INSERT: its assignments, its number, then 1205, 1213, and 1062 where a visible row has the values of one of its keys
+-- a made row is inserted, with the progress behind its number: 1205, 1213, and 1062 where a visible row has the values of
+-- one of its keys
+abbrev pub insert_made : Scene → Row → Progress → Result Progress Refusal
+insert_made a new h = do
+  let made = change.Insert a.def.name new ∷ []
+  told h.next (claimed a.held a.changed made)
+  told h.next (refuse_where 1062 (list_any (clashes a.def new) (seen_rows a h)))
+  Ok (advanced a made 1 h)
+
+-- a made row takes the place of the visible rows that have the values of one of its keys, with the progress behind its
+-- number: these are deleted, and it is inserted; 1205, 1213
+abbrev pub replace_made : Scene → Row → Progress → Result Progress Refusal
+replace_made a new h = do
+  let gone = filter (clashes a.def new) (seen_rows a h)
+  let made = map (change.Delete a.def.name) gone ++ change.Insert a.def.name new ∷ []
+  told h.next (claimed a.held a.changed made)
+  Ok (advanced a made (length gone + 1) h)
+
+-- a tuple of INSERT: its assignments, its number, then the row that is made of them
 abbrev pub inserted : Scene → List ℕ → Progress → List ItemValue → Result Progress Refusal
 inserted a at g tuple = do
   fields ← told g.next (fields_of a.def at tuple)
-  let new = new_row a g.next fields
-  let made = change.Insert a.def.name new ∷ []
-  let h = drawn a.def g
-  told h.next (claimed a.held a.changed made)
-  told h.next (refuse_where 1062 (list_any (clashes a.def new) (seen_rows a g)))
-  Ok (advanced a made 1 h)
+  insert_made a (new_row a g.next fields) (drawn a.def g)
 
--- a tuple of REPLACE: the visible rows that have the values of one of its keys are deleted, and the new one is inserted
+-- a tuple of REPLACE: its assignments, its number, then the row that is made of them
 abbrev pub replaced : Scene → List ℕ → Progress → List ItemValue → Result Progress Refusal
 replaced a at g tuple = do
   fields ← told g.next (fields_of a.def at tuple)
-  let new = new_row a g.next fields
-  let gone = filter (clashes a.def new) (seen_rows a g)
-  let made = map (change.Delete a.def.name) gone ++ change.Insert a.def.name new ∷ []
-  let h = drawn a.def g
-  told h.next (claimed a.held a.changed made)
-  Ok (advanced a made (length gone + 1) h)
+  replace_made a (new_row a g.next fields) (drawn a.def g)
 
 -- a row of DELETE: 1205, 1213
 abbrev pub deleted : Scene → Progress → Row → Result Progress Refusal

@@ -1,5 +1,5 @@
 -- The definition that a CREATE TABLE or a further key gives, or its first refusal.
-use Rattle.std.specs.Prelude.{true, ℕ, List, [], Some, None, Result, Ok}
+use Rattle.std.specs.Prelude.{true, ℕ, List, [], None, Result, Ok}
 use Rattle.std.specs.Option.{option_map_or}
 use Rattle.mr_types.specs.declared.definition.IndexDef.{IndexDef}
 use Rattle.mr_types.specs.declared.definition.TableDef.{TableDef}

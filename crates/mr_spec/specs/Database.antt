@@ -1,8 +1,6 @@
 -- Tables as lists of rows, and what commits make of them.
 use Rattle.std.specs.Prelude.{ℕ, Bool, false, not, if◌then◌else◌, List, [], ◌∷◌, ◌++◌, map, filter, find, Option}
 use Rattle.mr_spec.specs.declared.world.Table.{Table}
-use Rattle.mr_types.specs.declared.definition.TableDef.{TableDef}
-use Rattle.mr_types.specs.declared.row.Row.{Row}
 use Rattle.mr_types.specs.declared.row.Change.{Change}
 use Rattle.mr_types.specs.declared.row.Schema.{Schema}
 use Rattle.mr_types.specs.declared.row.Schema.TheVariants.{CreateTable, DropTable, CreateIndex, DropIndex}

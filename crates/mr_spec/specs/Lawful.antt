@@ -114,9 +114,9 @@ LawfulSchema moment tables (DropIndex name key) = IfTable name tables (λ t. lis
 
 -- ---- commits
 
--- lawful changes that aren't too heavy, or a lawful change of the schema
+-- at least one change, lawful one after the other and not too heavy; or a lawful change of the schema
 abbrev pub LawfulBody : ℕ → List Table → CommitBody → Type 0
-LawfulBody moment tables (body.Rows changes) = (are_lawful moment tables changes ≡ true) × (total_weight tables changes ≤ 67108864)
+LawfulBody moment tables (body.Rows changes) = (1 ≤ length changes) × (are_lawful moment tables changes ≡ true) × (total_weight tables changes ≤ 67108864)
 LawfulBody moment tables (body.Schema s) = LawfulSchema moment tables s
 
 -- commits that are lawful one after the other, on these tables, and whose moments don't fall, from this one on

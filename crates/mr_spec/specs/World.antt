@@ -2,7 +2,6 @@
 use Rattle.std.specs.Prelude.{ℕ, Bool, false, not, if◌then◌else◌, List, [], ◌∷◌, ◌++◌, length, take, drop, filter, find, Option, Some, None, unwrap_or}
 use Rattle.std.specs.List.{list_any, flat_map}
 use Rattle.std.specs.Option.{option_map_or, option_map}
-use Rattle.mr_spec.specs.declared.world.Savepoint.{Savepoint}
 use Rattle.mr_spec.specs.declared.world.Session.{Session}
 use Rattle.mr_spec.specs.declared.world.Table.{Table}
 use Rattle.mr_spec.specs.declared.world.Txn.{Txn}
