@@ -17,4 +17,5 @@ pub mod Steps
 pub mod Scripts
 pub mod Drawing
 pub mod Numbered
+pub mod Tuples
 pub mod Growing

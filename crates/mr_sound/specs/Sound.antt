@@ -10,7 +10,6 @@ use Rattle.mr_types.specs.declared.row.Change.TheVariants.{Insert, Update, Delet
 use Rattle.mr_types.specs.declared.row.Commit.{Commit}
 use Rattle.mr_spec.specs.declared.world.Txn.{Txn}
 use Rattle.mr_types.specs.declared.statement.Statement.{Statement}
-use Rattle.mr_types.specs.declared.statement.Statement.TheVariants as statement
 use Rattle.mr_types.specs.Grammatical.{is_statement}
 use Rattle.mr_spec.specs.Rows.{same_primary, rows_of, table_name}
 use Rattle.mr_spec.specs.Database.{table_of, replay}
@@ -78,9 +77,3 @@ IsBelow n (Delete table old) = ⊤
 pub record AreNumbered (w : World) : Type 0 where
   pub commits : (name : List ℕ) → numbers_after (λ name. 1) w.commits name ≤ w.numbers name
   pub held : (s : Session) (c : Change) → IsIn s (w.here ∷ w.others) → IsIn c (changes_by s.txn) → IsBelow (w.numbers (table_name c)) c
-
--- the rows to which the statement may give hidden numbers
-abbrev pub rows_made : Statement → ℕ
-rows_made (statement.Insert s) = length s.rows
-rows_made (statement.Replace s) = length s.rows
-rows_made _ = 0

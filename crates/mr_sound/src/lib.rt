@@ -6,7 +6,8 @@ mod numbers;
 mod sound;
 
 pub use numbers::{
-    numbers_of_an_opening_are_above, numbers_rise_by_rows_at_most, numbers_stay_above_those_used,
+    draws_are_few, numbers_of_an_opening_are_above, numbers_rise_by_rows_at_most,
+    numbers_stay_above_those_used,
 };
 pub use sound::{
     openings_are_sound, runs_keep_commits_lawful, scripts_keep_commits_lawful,
