@@ -48,6 +48,9 @@ impl GateLog {
         // There is damage exactly where it says so.
         ensures damaged { Tells (D.disk disk.old) → IfErr result (λ e. (e ≡ Stop.Disk) ⊎ IsDamage file from (file_of (D.disk disk.old) file).bytes e) }
         ensures sound { Tells (D.disk disk.old) → OnOk result (is_damaged_from from (file_of (D.disk disk.old) file).bytes ≡ false) }
+        // A damaged log is left as it is, whatever the answer.
+        ensures left { Tells (D.disk disk.old) → is_damaged_from from (file_of (D.disk disk.old) file).bytes ≡ true
+            → OnlyReads (D.disk disk.old) (D.disk disk.new) }
 
         ensures is_open { IfOk result (λ log. (log.is_open ≡ true) × (log.file ≡ file) × (log.from ≡ from) × (log.limit ≡ limit)) }
         ensures ahead { IfOk result (λ log. from + 5 * log.records ≤ log.end) }

@@ -1,4 +1,1 @@
-pub mod Cursor
-pub mod Answers
-pub mod Nests
 pub mod Collected

@@ -3,17 +3,16 @@
 ghost use Rattle.std.specs.Prelude.{IfOk};
 ghost use Rattle.std.specs.Option.{option_map};
 ghost use Rattle.mr_lex.specs.Reading.{tokens_of};
-ghost use Rattle.mr_parse.specs.Answers.{IsGiven};
+ghost use Rattle.mr_tokens.specs.Answers.{IsGiven};
 ghost use Rattle.mr_parse.specs.Collected.{AreAll};
-ghost use Rattle.mr_parse.specs.Cursor.{lexemes};
+ghost use Rattle.mr_tokens.specs.Cursor.{lexemes};
 ghost use Rattle.mr_spec.specs.Grammar.{parsed, statement_of};
 ghost use Rattle.mr_types.specs.Grammatical.{IsGrammatical};
 ghost use Rattle.mr_types.specs.Values.{Answers};
 
 use crate::statements::whole_statement;
-use crate::tokens::Tokens;
-use crate::unread::Unread;
 use mr_lex::{Lexer, Token};
+use mr_tokens::{Tokens, Unread};
 use mr_types::{Refused, Statement};
 use std::alloc::{AllocError, Global};
 

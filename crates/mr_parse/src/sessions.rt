@@ -1,16 +1,14 @@
 //! Tables and indexes by name, transactions, locks and sessions; each behind its first keyword.
 
 ghost use Rattle.std.specs.Prelude.{◌≡◌};
-ghost use Rattle.mr_parse.specs.Answers.{Reads};
+ghost use Rattle.mr_tokens.specs.Answers.{Reads};
 ghost use Rattle.mr_spec.specs.Phrases.{listed};
 ghost use Rattle.mr_spec.specs.SessionPhrases as spec;
 
-use crate::keys::comment;
-use crate::rows::names_in;
-use crate::tokens::Tokens;
-use crate::unread::Unread;
 use mr_base::Blob;
+use mr_parse_tables::comment;
 use mr_spec::TableKey;
+use mr_tokens::{Tokens, Unread, names_in};
 use mr_types::{KeyName, KeyText, NameList, Statement};
 use sqlite_items::Items;
 use std::alloc::Global;

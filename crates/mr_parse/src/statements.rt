@@ -1,18 +1,16 @@
 //! Statements, by their first keyword.
 
 ghost use Rattle.std.specs.Prelude.{◌≡◌};
-ghost use Rattle.mr_parse.specs.Answers.{Reads};
+ghost use Rattle.mr_tokens.specs.Answers.{Reads};
 ghost use Rattle.mr_spec.specs.Grammar as spec;
 
-use crate::rows::{delete, insert, update};
-use crate::select::select;
 use crate::sessions::{
     begin, drop_statement, index_on, index_words, lock, new_index, release, rollback, start, work,
 };
-use crate::tables::create_table;
-use crate::tokens::Tokens;
-use crate::unread::Unread;
+use mr_parse_rows::{delete, insert, select, update};
+use mr_parse_tables::create_table;
 use mr_spec::TableKey;
+use mr_tokens::{Tokens, Unread};
 use mr_types::Statement;
 use std::alloc::Global;
 

@@ -1,6 +1,6 @@
 use Rattle.std.proofs.Common.{◌≡◌, length}
 use Rattle.mr_lex.specs.Reading.{tokens_of}
-use Rattle.mr_parse.specs.Cursor.{lexemes}
+use Rattle.mr_tokens.specs.Cursor.{lexemes}
 use Rattle.mr_parse.specs.Collected.{joined}
 use Rattle.mr_parse.proofs.parse.collected.Given as goal
 

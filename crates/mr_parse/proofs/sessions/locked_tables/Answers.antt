@@ -2,7 +2,7 @@ use Rattle.std.proofs.Common.{rules, arith}
 use Rattle.std.proofs.lemmas.Grind.{common_steps}
 use Rattle.mr_spec.specs.Phrases.{separated_from, comma}
 use Rattle.mr_spec.specs.SessionPhrases.{locked_table}
-use Rattle.mr_parse.proofs.Turns.{one_more, no_more}
+use Rattle.mr_tokens.proofs.Turns.{one_more, no_more}
 use Rattle.mr_parse.proofs.sessions.locked_tables.Goals as goal
 
 pub returns-in_err-locked_table : goal.returns-in_err-locked_table

@@ -1,0 +1,5 @@
+pub mod Totals
+pub mod Sorts
+pub mod Rising
+pub mod Ties
+pub mod Tables

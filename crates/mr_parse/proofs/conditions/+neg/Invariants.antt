@@ -1,4 +1,0 @@
-use Rattle.mr_parse.proofs.conditions.+neg.Given as goal
-
-abbrev pub decreases-neg : goal.decreases-neg
-decreases-neg l = l.depth

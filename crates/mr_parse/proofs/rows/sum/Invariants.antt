@@ -1,6 +1,0 @@
-use Rattle.std.proofs.Common.{◌≡◌, ◌-◌}
-use Rattle.mr_spec.specs.RowPhrases.{sum, sum_from}
-use Rattle.mr_parse.proofs.rows.sum.Given as goal
-
-abbrev pub invariant-loop-turn : goal.invariant-loop-turn
-invariant-loop-turn l = sum l.initial.tokens ≡ sum_from (l._turn-end - l._turn) l.minus l.found l.tokens
