@@ -1,7 +1,6 @@
 pub mod LogCommits
 pub mod Lawful
 pub mod Rooms
-pub mod Numbers
 pub mod Early
 pub mod GoingOn
 pub mod Emitted
