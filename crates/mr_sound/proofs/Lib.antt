@@ -1,4 +1,5 @@
 pub mod Basics
+pub mod Containing
 pub mod SameKeys
 pub mod EqualRows
 pub mod RowLists

@@ -2,9 +2,11 @@
 //! that hidden numbers stay above those that are used.
 #![tactic(auto)]
 
+mod lists;
 mod numbers;
 mod sound;
 
+pub use lists::elements_are_contained;
 pub use numbers::{
     draws_are_few, numbers_of_an_opening_are_above, numbers_rise_by_rows_at_most,
     numbers_stay_above_those_used,
