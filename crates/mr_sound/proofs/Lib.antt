@@ -16,6 +16,7 @@ pub mod Schemas
 pub mod Writes
 pub mod Steps
 pub mod Scripts
+pub mod Holding
 pub mod Drawing
 pub mod Numbered
 pub mod Tuples
