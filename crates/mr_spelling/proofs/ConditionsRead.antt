@@ -4,7 +4,6 @@ use Rattle.std.specs.List.{list_all}
 use Rattle.mr_lex.specs.Reading.{Lexeme}
 use Rattle.mr_types.specs.Grammatical.{is_name, is_literal, is_condition, layer_is_grammatical, two_or_more, some_all, where_given}
 use Rattle.mr_types.specs.declared.value.Value.{Value}
-use Rattle.mr_types.specs.declared.value.Value.TheVariants as values
 use Rattle.std.proofs.lemmas.Bool.{leb-true}
 use Rattle.mr_types.specs.declared.expr.Cmp.{Cmp}
 use Rattle.mr_types.specs.declared.expr.Cmp.TheVariants as cmp
@@ -21,7 +20,7 @@ use Rattle.mr_spelling.specs.Spelling.{spelled_by, spelled_list, spelled_literal
 use Rattle.mr_spelling.specs.Conditions.{comparison_sign, Way, Ways, flat, under_not, enclosed, anywhere, deepest, joined, spelled_between, spelled_in, compared, all_joined, any_joined, layer_ways, ways, spelled_condition, nesting, spelled_where}
 use Rattle.mr_spelling.proofs.Reading.{Reads, go, done, lacks, lacks_sign, yes, no, yes_sign, no_sign, want, want_sign, named, looks, looks_past, seen, unseen, name-begins, yes_last, no_last, maybe_yes, maybe_no}
 use Rattle.mr_spelling.proofs.Lists.{IsItem, Each, Some_each, any_rest, some_each-of, first_of_both, second_of_both, listed-reads, separated-reads, list-grows, in_parentheses-reads, clause-reads, clause-absent}
-use Rattle.mr_spelling.proofs.Literals.{literal-reads, literal-item}
+use Rattle.mr_spelling.proofs.Literals.{literal-reads, literal-item, literal-grows}
 
 -- ---- one test
 
@@ -231,22 +230,9 @@ or-ways ws x i =
 abbrev Goes : Expr → Type 0
 Goes x = is_condition x ≡ true → AreRead x
 
-literal-longer : (v : Value) (more : List Part) → suc (length more) ≤ length (spelled_literal v more)
-literal-longer values.Null more = omega arith
-literal-longer (values.Number (pos n)) more = omega arith
-literal-longer (values.Number (negsuc n)) more = omega arith
-literal-longer (values.Text x) more = omega arith
-literal-longer (values.Bytes x) more = omega arith
-
-between-longer : (a b : Value) (more : List Part) → length more ≤ length (spelled_between a b more)
-between-longer a b more = omega (arith, literal-longer a (Keyword (codes "and") ∷ spelled_literal b more), literal-longer b more)
-
 each-literal : (vs : List Value) → some_all is_literal vs ≡ true → Each (IsItem literal spelled_literal any_rest) vs
 each-literal [] h = tt
 each-literal (v ∷ vs) h = some_each-of (IsItem literal spelled_literal any_rest) is_literal literal-item (v ∷ vs) h
-
-in-longer : (vs : List Value) (more : List Part) → some_all is_literal vs ≡ true → length more ≤ length (spelled_in vs more)
-in-longer vs more h = omega (arith, list-grows (Mark (codes ",")) (eat (codes ",")) literal spelled_literal any_rest vs (Mark (codes ")") ∷ more) (each-literal vs h))
 
 -- what the folds say of a form
 ok-form : (x : Expr-F Expr) → is_condition (roll-Expr x) ≡ layer_is_grammatical (map-Expr Expr Bool is_condition x)
@@ -261,7 +247,7 @@ formed x y r f h = subst (λ z. AreWays z (roll-Expr x)) (sym (ways-form x)) (su
 
 compare-goes : (n : List ℕ) (c : Cmp) (v : Value) → (is_name n && is_literal v) ≡ true → AreWays (layer_ways (Compare n c v)) (e.Compare n c v)
 compare-goes n c v h =
-    let i = test-way n (λ more. Mark (comparison_sign c) ∷ spelled_literal v more) (e.Compare n c v) (λ more. omega (arith, literal-longer v more))
+    let i = test-way n (λ more. Mark (comparison_sign c) ∷ spelled_literal v more) (e.Compare n c v) (λ more. omega (arith, literal-grows v more))
         (λ more. compare-reads n c v more (second_of_both (is_name n) (is_literal v) h)) in
     are-anywhere (compared n c v) (under_not (compared n c v)) (e.Compare n c v) i (under-not (compared n c v) (e.Compare n c v) i)
 
@@ -286,7 +272,7 @@ between-goes : (n : List ℕ) (a b : Value) → (is_name n && (is_literal a && i
 between-goes n a b h =
     let k = second_of_both (is_name n) (is_literal a && is_literal b) h in
     range-goes n (codes "between") (λ more. spelled_literal a (Keyword (codes "and") ∷ spelled_literal b more)) (e.Between n a b)
-    (λ more. omega (arith, literal-longer a (Keyword (codes "and") ∷ spelled_literal b more), literal-longer b more))
+    (λ more. omega (arith, literal-grows a (Keyword (codes "and") ∷ spelled_literal b more), literal-grows b more))
     (λ more. between-range n a b more (first_of_both (is_literal a) (is_literal b) k) (second_of_both (is_literal a) (is_literal b) k)) (λ all. refl) (λ all. refl)
     (λ all ts s. first-true (sees (codes "between") ts) (sees (codes "in") ts) (seen-first (codes "between") all ts s))
 

@@ -5,3 +5,4 @@ pub mod SessionsRead
 pub mod RowsRead
 pub mod ConditionsRead
 pub mod SelectsRead
+pub mod TablesRead

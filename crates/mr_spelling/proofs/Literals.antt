@@ -92,7 +92,7 @@ literal-reads (values.Number (negsuc n)) more h = yes_sign _ (go _ (number-reads
 literal-reads (values.Text x) more h = no_sign _ _ refl (by-kind kinds.Text (λ t i. i.0) (go _ (text-reads h) done))
 literal-reads (values.Bytes x) more h = no_sign _ _ refl (by-kind kinds.Bytes (λ t i. i.0) (go _ binary-reads done))
 
-literal-grows : (v : Value) (more : List Part) → suc (length more) ≤ length (spelled_literal v more)
+pub literal-grows : (v : Value) (more : List Part) → suc (length more) ≤ length (spelled_literal v more)
 literal-grows values.Null more = omega arith
 literal-grows (values.Number (pos n)) more = omega arith
 literal-grows (values.Number (negsuc n)) more = omega arith

@@ -36,6 +36,9 @@ go {A} {B} {p} {all} {mid} {rest} {x} {y} f r g = record { reads = λ ts s. next
 pub done : {A : Type 0} {x : A} {all : List Part} → Reads (pure x) all x all
 done = record { reads = λ ts s. (refl, s) }
 
+pub done_as : {A : Type 0} {x y : A} {all : List Part} → x ≡ y → Reads (pure x) all y all
+done_as e = record { reads = λ ts s. (e, s) }
+
 pub checked : {B : Type 0} {b : Bool} {all rest : List Part} {y : B} (f : Unit {0} → Phrase B) → b ≡ true → Reads (f tt) all y rest → Reads (check b >>= f) all y rest
 unfolding check
 checked {B} {b} {all} {rest} {y} f e r = record { reads = λ ts s. rw e (r.reads ts s) }

@@ -4,3 +4,4 @@ pub mod Sessions
 pub mod Rows
 pub mod Conditions
 pub mod Selects
+pub mod Tables
