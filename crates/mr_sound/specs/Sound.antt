@@ -19,7 +19,7 @@ use Rattle.mr_spec.specs.Replay.{last_moment, numbers_after}
 use Rattle.mr_spec.specs.Weight.{total_weight}
 use Rattle.mr_spec.specs.World.{World, changes_by, seen_by, has_used}
 
--- it stands in the list
+-- x stands in the list
 abbrev pub IsIn : {A : Type 0} → A → List A → Type 0
 IsIn x [] = ⊥
 IsIn x (y ∷ ys) = (y ≡ x) ⊎ IsIn x ys

@@ -8,6 +8,7 @@ use Rattle.mr_types.specs.declared.statement.Statement.{Statement}
 use Rattle.mr_types.specs.declared.statement.Statement.TheVariants as statement
 use Rattle.mr_types.specs.Refusals.{refuse_where}
 use Rattle.mr_spec.specs.declared.world.Session.{Session}
+use Rattle.mr_spec.specs.declared.world.Txn.{Txn}
 use Rattle.mr_spec.specs.Replay.{reopened}
 use Rattle.mr_spec.specs.World.{World, committed, fresh, is_session, turned_to}
 use Rattle.mr_spec.specs.Outcome.{Outcome, answered}
@@ -16,6 +17,7 @@ use Rattle.mr_spec.specs.Step.{timed}
 use Rattle.mr_spec.specs.ScriptRun.{world_after, world_behind}
 use Rattle.mr_spec.proofs.Commits.{further-step}
 use Rattle.mr_laws.proofs.Staying.{Follows, Origin, Keeps, snapshot_of, keeps-step, others-committed}
+use Rattle.mr_laws.specs.Snapshots.{StaysInPlace}
 use Rattle.mr_sound.specs.Sound.{IsIn}
 use Rattle.mr_sound.proofs.Basics.{in-filter}
 use Rattle.mr_sound.proofs.Made.{ok-behind}
@@ -92,3 +94,18 @@ behind-since n w (s ∷ ss) now le h = behind-since n (world_after w s (now 0)) 
 
 pub run-since : (commits : List Commit) (ss : List (Result Statement ℕ)) (now : ℕ → ℕ) → LieSince (length commits) (world_behind (reopened commits) ss now)
 run-since commits ss now = behind-since (length commits) (reopened commits) ss now (le_refl (length commits)) (opened-since commits)
+
+-- ---- where a snapshot is fixed
+
+follows-new : (all n : ℕ) (old new : Option ℕ) → old ≡ None → Follows all old new → new ≡ Some n → n ≡ all
+follows-new all n old new e (inl f) g = absurd (none-some n (sym e ∙ sym f ∙ g))
+follows-new all n old new e (inr f) g = sym (same_Some all n (sym (f ∙ ap (λ x. Some (unwrap_or x all)) e) ∙ g))
+
+pub first-fixed : (w : World) (s : Result Statement ℕ) (clock n : ℕ) (t u : Txn) → StaysInPlace s → w.here.txn ≡ Some t → t.snapshot ≡ None → (world_after w s clock).here.txn ≡ Some u → u.snapshot ≡ Some n → n ≡ length w.commits
+first-fixed w s clock n t u p e f g h =
+    let o : Origin w.here.txn (length w.commits) u = (keeps-step w s clock p).origin u g in
+    let same : Some o.from ≡ Some t = sym o.is ∙ e in
+    follows-new (length w.commits) n o.from.snapshot u.snapshot (ap snapshot_of same ∙ f) o.snapshot h
+
+pub begun-fixed : (w : World) (clock : ℕ) (t : Txn) → (world_after w (Ok (statement.Begin true)) clock).here.txn ≡ Some t → t.snapshot ≡ Some (length (world_after w (Ok (statement.Begin true)) clock).commits)
+begun-fixed w clock t e = ap snapshot_of (sym e)
