@@ -7,3 +7,5 @@ pub mod Nexts
 pub mod Texts
 pub mod Feeding
 pub mod Taking
+pub mod Whole
+pub mod Concluding

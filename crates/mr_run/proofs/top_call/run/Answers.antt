@@ -1,0 +1,1 @@
+use Rattle.mr_run.proofs.top_call.run.Goals as goal
