@@ -36,6 +36,7 @@ use Rattle.mr_spec.specs.ScriptRun.{event_at}
 use Rattle.mr_spec.proofs.Results.{bound, behind, either, after}
 use Rattle.mr_sound.proofs.Made.{ok-bound, ok-behind}
 use Rattle.mr_sound.proofs.MadeRows.{then-ok}
+use Rattle.mr_sound.proofs.NewFits.{some-ok}
 use Rattle.mr_sound.proofs.Tables.{name-of}
 use Rattle.mr_sound.proofs.Schemas.{check-name}
 use Rattle.mr_steps.specs.Adding.{rows_commit, first_commit, MayCommit, IsOneAtMost, IsOwn, Adds}
@@ -61,10 +62,6 @@ commit_at w b = record { moment = w.moment; body = b }
 rows-more : (P : Commit → Type 0) (w : World) (xs : List Change) → P (commit_at w (body.Rows xs)) → MoreBy P w.commits (with_rows xs w).commits
 rows-more P w [] h = none-more P w.commits w.commits refl
 rows-more P w (x ∷ xs) h = one-more P w.commits (commit_at w (body.Rows (x ∷ xs))) h
-
-some-ok : {A : Type 0} (code : ℕ) (o : Option A) (x : A) → some_or code o ≡ Ok x → o ≡ Some x
-some-ok code None x e = absurd cc
-some-ok code (Some y) x e = let f : y ≡ x = cc in ap Some f
 
 -- ---- statements on definitions
 
