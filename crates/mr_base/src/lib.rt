@@ -12,6 +12,3 @@ pub use source::{Clock, Source};
 pub use stop::{
     DefAnswer, Direction, DiskFault, EmitFault, FullKind, Malformed, Memory, SourceFault, Stop,
 };
-
-#[cfg(test)]
-mod tests;

@@ -1,6 +1,6 @@
 -- Commits more in the binary log.
-use Rattle.std.proofs.Common.{◌≡◌, ℕ, ◌+◌, ◌≤◌, ◌⊎◌, ◌^◌, min, length, take, List, [], ◌∷◌, ◌++◌, Some, None, refl, ap, sym, ◌∙◌, inl, inr, subst, arith, Bool, IsTrue, append-nil, append_assoc, Option, Result, IsErrAnd}
-use Rattle.std.proofs.lemmas.List.{take-append-le, take_all, length-take}
+use Rattle.std.proofs.Common.{◌≡◌, ℕ, ◌+◌, ◌≤◌, ◌⊎◌, ◌^◌, length, take, List, [], ◌∷◌, ◌++◌, Some, None, refl, ap, sym, ◌∙◌, inl, inr, subst, arith, Bool, IsTrue, append-nil, append_assoc, Option, Result, IsErrAnd}
+use Rattle.std.proofs.lemmas.List.{take-append-le, take_all}
 use Rattle.std.proofs.lemmas.Bool.{cases_lt}
 use Rattle.std.proofs.Math.Seq.{take-append-add}
 use Rattle.mr_base.specs.Disk.{State, Moment, Tells, IsAtRest, HasRisen, present, file_of}
@@ -19,11 +19,10 @@ use Rattle.mr_commit_log.specs.Appending.{early, IsReady, IsSettled, IsAppending
 use Rattle.mr_commit_log.specs.Causes.{IsCausedBy}
 use Rattle.mr_commit_log.specs.Folder.{Holds}
 use Rattle.mr_commit_log.specs.LogCommits.{read_commit, read_commits}
-use Rattle.mr_commit_log.specs.Room.{log_length, HasRoom}
+use Rattle.mr_commit_log.specs.Room.{log_length}
 use Rattle.mr_commit_log.specs.declared.ending.Ending.{Ending}
 use Rattle.mr_commit_log.specs.declared.ending.Ending.TheVariants.{Stopped}
 use Rattle.mr_commit_log.proofs.Early.{early_is, not_none}
-use Rattle.mr_commit_log.proofs.Lawful.{lawful_front}
 use Rattle.mr_commit_log.proofs.LogCommits.{commits_push, read_only}
 use Rattle.mr_commit_log.proofs.Rooms.{log_on, room_on, span_is}
 

@@ -1,5 +1,5 @@
 -- Answers that carry an error.
-use Rattle.std.proofs.Common.{◌≡◌, ap, sym, subst, Option, Some, None, Result, Ok, Err, IsErrAnd, IfErr, OnOk}
+use Rattle.std.proofs.Common.{◌≡◌, ap, sym, subst, Some, None, Result, Ok, Err, IsErrAnd, IfErr, OnOk}
 use Rattle.mr_commit_log.specs.Appending.{early}
 use Rattle.mr_commit_log.specs.declared.ending.Ending.{Ending}
 

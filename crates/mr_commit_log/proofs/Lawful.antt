@@ -1,5 +1,5 @@
 -- The first of lawful commits are lawful.
-use Rattle.std.proofs.Common.{◌≡◌, ℕ, List, [], ◌∷◌, ◌++◌, sym, subst, append_assoc, inl, inr, refl}
+use Rattle.std.proofs.Common.{ℕ, List, [], ◌∷◌, ◌++◌, sym, subst, append_assoc, inl, inr, refl}
 use Rattle.mr_types.specs.declared.row.Commit.{Commit}
 use Rattle.mr_spec.specs.declared.world.Table.{Table}
 use Rattle.mr_spec.specs.Database.{with_body}

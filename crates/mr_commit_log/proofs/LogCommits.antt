@@ -1,5 +1,5 @@
 -- The commits of a binary log, record by record.
-use Rattle.std.proofs.Common.{◌≡◌, ℕ, List, [], ◌∷◌, ◌++◌, Option, Some, None, Result, Ok, Err, refl, ap, sym, ◌∙◌, length, arith, true, false, cond, Bool}
+use Rattle.std.proofs.Common.{◌≡◌, ℕ, List, [], ◌∷◌, ◌++◌, Option, Some, None, Result, Ok, Err, refl, ap, sym, ◌∙◌, true, false, cond, Bool}
 use Rattle.std.specs.List.{list_all}
 use Rattle.mr_fields.specs.Fields.{is_byte, placed, whole_in}
 use Rattle.mr_fields.proofs.FieldLaws.{whole_only}

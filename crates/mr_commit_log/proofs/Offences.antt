@@ -1,5 +1,5 @@
 -- The first offence among the bodies of a binary log.
-use Rattle.std.proofs.Common.{◌≡◌, ℕ, ◌+◌, List, [], ◌∷◌, ◌++◌, Option, Some, None, Result, Ok, Err, ap, ◌∙◌, length, arith, refl}
+use Rattle.std.proofs.Common.{◌≡◌, ℕ, ◌+◌, List, [], ◌∷◌, ◌++◌, Some, None, Err, ap, ◌∙◌, length, arith, refl}
 use Rattle.mr_gate.specs.Log.{span}
 use Rattle.mr_binlog.specs.CommitForm.{reads_commit}
 use Rattle.mr_types.specs.declared.row.Commit.{Commit}

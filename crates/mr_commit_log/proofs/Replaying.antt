@@ -1,5 +1,5 @@
 -- From a log that was opened to the commits that it holds.
-use Rattle.std.proofs.Common.{◌≡◌, ◌⊎◌, ℕ, ◌+◌, Bool, IsTrue, Option, Err, List, [], ◌∷◌, ◌++◌, length, Some, None, refl, ap, sym, ◌∙◌, inl, inr, subst, arith, true, false, append_assoc, append-nil}
+use Rattle.std.proofs.Common.{◌≡◌, ◌⊎◌, ℕ, ◌+◌, Bool, IsTrue, Option, List, [], ◌∷◌, ◌++◌, length, Some, None, refl, ap, sym, ◌∙◌, inl, inr, subst, arith, true, false, append_assoc, append-nil}
 use Rattle.mr_base.specs.Disk.{State, Moment, Tells, MayLeave, IsAtRest, HasRisen, present, file_of}
 use Rattle.mr_base.specs.declared.stop.Stop.{Stop}
 use Rattle.mr_base.specs.declared.stop.Stop.TheVariants.{Memory, Disk, Full, Damaged}
@@ -8,7 +8,7 @@ use Rattle.mr_base.proofs.Moments.{started, weaker, goes_on, at_end, same_file, 
 use Rattle.mr_gate.specs.Log.{IsLog, records_from, end_from, is_damaged_from, span}
 use Rattle.mr_gate.specs.Gate.{Gate, KeepsLog, Reaches, Stands as StandsOn}
 use Rattle.mr_binlog.specs.CommitForm.{commit_bytes}
-use Rattle.mr_binlog.specs.Commits.{IsNextCommit, IsNoCommit, IsOffence, SaysOffence, IsRead}
+use Rattle.mr_binlog.specs.Commits.{IsNextCommit, IsNoCommit, SaysOffence, IsRead}
 use Rattle.mr_gate.proofs.Laws.{sound_log, opened_log, reaches_behind}
 use Rattle.mr_gate.proofs.Walk.{span-append}
 use mathlib.Core.Bool.{true≢false}
@@ -16,7 +16,7 @@ use Rattle.mr_types.specs.declared.row.Commit.{Commit}
 use Rattle.mr_commit_log.specs.Appending.{IsReady, IsSettled}
 use Rattle.mr_commit_log.specs.Causes.{GoesOn}
 use Rattle.mr_commit_log.specs.Folder.{Holds}
-use Rattle.mr_commit_log.specs.LogCommits.{read_commit, read_commits}
+use Rattle.mr_commit_log.specs.LogCommits.{read_commits}
 use Rattle.mr_commit_log.specs.Opening.{offence, IsDamagedAt, IsKept, IsSilent, KeepsRecords, IsOpeningCause, Replaying}
 use Rattle.mr_commit_log.proofs.LogCommits.{commits_push, read_bytes}
 use Rattle.mr_commit_log.proofs.Offences.{offence_at}

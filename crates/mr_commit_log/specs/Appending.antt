@@ -1,5 +1,5 @@
 -- What is known of a host while commits are appended to the binary log.
-use Rattle.std.specs.Prelude.{◌≡◌, ℕ, ◌+◌, ◌<◌, List, ◌∷◌, [], ◌++◌, length, take, true, Option, Some, None, Result, Ok, Err}
+use Rattle.std.specs.Prelude.{◌≡◌, ℕ, ◌+◌, ◌<◌, List, ◌∷◌, ◌++◌, length, take, true, Option, Some, None, Result, Ok, Err}
 use Rattle.mr_base.specs.Disk.{State, Moment, Tells, MayLeave, IsAtRest, present, file_of}
 use Rattle.mr_base.specs.Calls.{During}
 use Rattle.mr_base.specs.declared.stop.Stop.TheVariants.{Full}

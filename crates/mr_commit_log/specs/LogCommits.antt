@@ -1,7 +1,6 @@
 -- The commits that the bodies of a log are.
-use Rattle.std.specs.Prelude.{◌≡◌, ℕ, List, [], ◌∷◌, Option, Some, None, true, Result, Ok, Err, if◌then◌else◌}
+use Rattle.std.specs.Prelude.{ℕ, List, [], ◌∷◌, Option, Some, None, Result, Ok, Err, if◌then◌else◌}
 use Rattle.std.specs.List.{list_all}
-use Rattle.std.specs.Option.{option_map_or, option_map}
 use Rattle.mr_fields.specs.Fields.{is_byte}
 use Rattle.mr_binlog.specs.CommitForm.{reads_commit}
 use Rattle.mr_types.specs.declared.row.Commit.{Commit}

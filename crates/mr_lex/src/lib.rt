@@ -10,8 +10,6 @@ mod pieces;
 mod place;
 mod quoted;
 mod splitter;
-#[cfg(test)]
-mod tests;
 mod token;
 
 pub use lexer::Lexer;

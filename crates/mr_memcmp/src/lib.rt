@@ -28,8 +28,3 @@ pub use laws::{
 };
 pub use number::{u32_at, u64_at};
 pub use order::compare_keys;
-
-#[cfg(test)]
-mod reading_tests;
-#[cfg(test)]
-mod tests;

@@ -18,6 +18,3 @@ pub use choice::Choice;
 pub use clock::ListClock;
 pub use host::MemHost;
 pub use source::MemSource;
-
-#[cfg(test)]
-mod tests;

@@ -60,6 +60,3 @@ pub fn restore(alloc: Global, pieces: Pieces<'_>) -> Result<Blob, Memory>
 pub fn texts_come_back()
     ensures { (kind : Kind) (text : List ℕ) → IsTextOf kind text → ComesBack kind text }
 {}
-
-#[cfg(test)]
-mod tests;

@@ -1,4 +1,4 @@
-use Rattle.std.proofs.Common.{◌≡◌, ◌∙◌, Some, None, Err, ap, sym, subst, length, refl, ◌≤◌, ◌^◌, List, ℕ}
+use Rattle.std.proofs.Common.{◌∙◌, Some, None, Err, ap, sym, subst, length, refl, ◌≤◌, ◌^◌, List, ℕ}
 use Rattle.mr_base.specs.declared.stop.Stop.TheVariants.{Memory}
 use Rattle.mr_commit_log.specs.Causes.{IsCausedBy}
 use Rattle.mr_commit_log.specs.LogCommits.{read_commit}

@@ -1,5 +1,5 @@
 use Rattle.mr_base.proofs.Counting.{rises_tells}
-use Rattle.mr_commit_log.proofs.Replaying.{opening_kept, then_nothing, opening_silent, opening_records, silent_then, records_then, ready_opened, ready_same}
+use Rattle.mr_commit_log.proofs.Replaying.{opening_kept, then_nothing, opening_silent, opening_records, silent_then, records_then}
 use Rattle.mr_commit_log.proofs.read.open.Goals as goal
 
 pub returns-in_err-log-clause-any_moment : goal.returns-in_err-log-clause-any_moment

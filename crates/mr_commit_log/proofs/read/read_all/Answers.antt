@@ -1,4 +1,4 @@
-use Rattle.std.proofs.Common.{◌∙◌, ◌≤◌, Some, None, Err, IfSome, List, refl, ap, sym, subst, arith}
+use Rattle.std.proofs.Common.{◌≤◌, Some, None, Err, IfSome, List, ap, sym, subst, arith}
 use Rattle.mr_base.proofs.Moments.{same_start, same_then}
 use Rattle.mr_base.specs.Disk.{file_of}
 use Rattle.mr_binlog.specs.Commits.{IsNextCommit, IsRead}

@@ -4,8 +4,8 @@ ghost use Rattle.std.specs.Prelude.{◌≡◌, ◌∷◌, [], IfOk, None, Some};
 ghost use Rattle.mr_types.specs.Rows.{IsRowOf};
 ghost use Rattle.mr_memcmp.specs.Fitting.{HasKind};
 
-use super::*;
 use mr_base::{Blob, Memory};
+use mr_memcmp::{compare_keys, encode_columns, encode_key};
 use mr_types::{Collation, ColumnDef, ColumnType, IndexDef, Kind, Row, TableDef, Value};
 use sqlite_items::Items;
 use std::alloc::Global;

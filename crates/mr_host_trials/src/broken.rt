@@ -4,7 +4,7 @@ ghost use mathlib.Core.Bool.{true≢false};
 ghost use Rattle.std.proofs.Common.{sym};
 ghost use Rattle.mr_base.specs.Disk.{at_rest};
 
-use super::*;
+use mr_base::{Blob, Disk, DiskFault, EmitFault, Host};
 use std::test::Fail;
 
 #[derive(Drop)]

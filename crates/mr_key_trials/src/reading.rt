@@ -1,7 +1,7 @@
 //! Keys that are read column by column.
 
-use super::*;
 use mr_base::Malformed;
+use mr_memcmp::KeyReader;
 use mr_types::{Collation, ColumnType, FieldRef, Kind};
 use std::alloc::{AllocError, Global};
 use std::test::Fail;

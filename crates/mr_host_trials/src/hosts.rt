@@ -1,6 +1,6 @@
 //! Calls that fail where they are to, the images of a crash, a source and a clock.
-use super::*;
 use mr_base::{Clock, Disk, DiskFault, EmitFault, Host, Source, SourceFault};
+use mr_memhost::{Choice, ListClock, MemHost, MemSource};
 use std::alloc::Global;
 use std::test::Fail;
 

@@ -1,6 +1,6 @@
 //! What the lexer and the splitter say of a table of texts.
 
-use crate::{BadToken, Lexer, Split, Splitter, TokenKind, pieces_cut_alike};
+use mr_lex::{BadToken, Lexer, Split, Splitter, TokenKind, pieces_cut_alike};
 
 /// The first letter of a kind in the rows: capital at a token's first byte, small at the others.
 fn letter(kind: TokenKind) -> (u8, u8) {

@@ -1,8 +1,8 @@
 //! Texts that are taken apart and put together again.
 
-use super::*;
 use mr_pieces::{split_text, split_unpack};
-use mr_types::Collation;
+use mr_types::{Collation, Kind, Pieces};
+use mr_unpack::{make_unpack, restore};
 use std::test::Fail;
 
 const TEXTS: [(&str, Collation, &[u8], &[u8], &[u8]); 5] = [
