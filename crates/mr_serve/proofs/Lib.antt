@@ -1,0 +1,5 @@
+pub mod Events
+pub mod Replied
+pub mod Early
+pub mod Running
+pub mod Stepping
