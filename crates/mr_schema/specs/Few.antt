@@ -1,4 +1,4 @@
--- Definitions of at most 64 columns, which all are that the checks have passed.
+-- Definitions of at most 255 columns: their count has one byte in a definition's form, and the checks let fewer pass.
 use Rattle.std.specs.Prelude.{ℕ, ◌≤◌, List, [], ◌∷◌, length, ⊤}
 use Rattle.mr_types.specs.declared.row.Schema.{Schema}
 use Rattle.mr_types.specs.declared.row.Schema.TheVariants.{CreateTable, DropTable, CreateIndex, DropIndex}
@@ -8,7 +8,7 @@ use Rattle.mr_types.specs.declared.row.Commit.{Commit}
 
 -- a table that is made has few columns
 abbrev pub FewInSchema : Schema → Type 0
-FewInSchema (CreateTable def) = length def.columns ≤ 64
+FewInSchema (CreateTable def) = length def.columns ≤ 255
 FewInSchema (DropTable name) = ⊤
 FewInSchema (CreateIndex name key) = ⊤
 FewInSchema (DropIndex name key) = ⊤

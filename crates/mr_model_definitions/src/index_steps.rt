@@ -9,8 +9,8 @@ ghost use Rattle.mr_spec.specs.KeyChecks.{is_named as has_name};
 ghost use Rattle.mr_spec.specs.Rows.{same_unique as same_in, visible as seen};
 ghost use Rattle.mr_spec.specs.SchemaSteps.{builds_other as other_is_built, free_for_key as key_is_free, building_names as names_built, with_begun, begin_index as index_begun, building_key as key_built, has_duplicate as duplicate_in, published, finish_index as index_finished, cancel_index as index_cancelled, create_index as index_made, drop_index as index_dropped};
 ghost use Rattle.mr_model_engine.specs.Worlds.{world_in};
-ghost use Rattle.mr_model_statements.specs.Acting.{Acts, Gives, Turns};
-ghost use Rattle.mr_model_engine.specs.Few.{FewColumns};
+ghost use Rattle.mr_model_engine.specs.Acting.{Acts, Gives, Turns};
+ghost use Rattle.mr_schema.specs.Few.{FewColumns};
 
 use crate::schema_steps::commit_schema;
 use mr_base::{Blob, Memory};

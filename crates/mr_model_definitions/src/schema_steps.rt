@@ -5,8 +5,8 @@ ghost use Rattle.std.specs.Option.{option_map_or};
 ghost use Rattle.mr_types.specs.Values.{Answers};
 ghost use Rattle.mr_spec.specs.SchemaSteps.{with_schema_change, is_engine as is_named_engine, created, create_table as table_made, dropped, drop_table as table_dropped, lock_tables as tables_locked};
 ghost use Rattle.mr_model_engine.specs.Worlds.{world_in};
-ghost use Rattle.mr_model_statements.specs.Acting.{Acts};
-ghost use Rattle.mr_model_statements.specs.Locking.{are_there};
+ghost use Rattle.mr_model_engine.specs.Acting.{Acts};
+ghost use Rattle.mr_model_definitions.specs.Locking.{are_there};
 
 use mr_base::{Blob, Memory};
 use mr_model_engine::{Engine, building_of, committed_table, table_in, used_elsewhere};
