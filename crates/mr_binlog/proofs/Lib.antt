@@ -2,4 +2,5 @@ pub mod CommitLaws
 mod Stopping
 mod Holding
 mod KeysFit
+mod Numbers
 mod Worked

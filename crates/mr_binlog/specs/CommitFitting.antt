@@ -1,6 +1,8 @@
--- Commits that have a form as bytes: numbers and lengths are in their fields, and rows are changed by one change at least.
+-- Commits that have a form as bytes: numbers and lengths are in their fields, and rows are changed by one change at least. And what
+-- each commit that is held as a value has of that: its numbers are of 64 bits.
 use Rattle.std.specs.Prelude.{◌<◌, ◌^◌, length}
 use Rattle.std.specs.List.{AllByRecursion}
+use Rattle.mr_types.specs.declared.row.Row.{Row}
 use Rattle.mr_types.specs.declared.row.Change.{Change}
 use Rattle.mr_types.specs.declared.row.Change.TheVariants.{Insert, Update, Delete}
 use Rattle.mr_types.specs.declared.row.Schema.{Schema as SchemaChange}
@@ -8,7 +10,9 @@ use Rattle.mr_types.specs.declared.row.Schema.TheVariants.{CreateTable, DropTabl
 use Rattle.mr_types.specs.declared.row.CommitBody.{CommitBody}
 use Rattle.mr_types.specs.declared.row.CommitBody.TheVariants.{Rows, Schema}
 use Rattle.mr_types.specs.declared.row.Commit.{Commit}
-use Rattle.mr_fields.specs.Fitting.{NameFits, RowFits}
+use Rattle.mr_spec.specs.Rows.{rows_of}
+use Rattle.mr_spec.specs.Database.{changes_in}
+use Rattle.mr_fields.specs.Fitting.{GivenFits, NameFits, RowFits}
 use Rattle.mr_schema.specs.DefinitionFitting.{KeyFits, DefinitionFits}
 
 abbrev pub ChangeFits : Change → Type 0
@@ -29,3 +33,13 @@ BodyFits (Schema change) = SchemaFits change
 pub record CommitFits (c : Commit) : Type 0 where
   pub moment : c.moment < 2 ^ 64
   pub body : BodyFits c.body
+
+-- a row's hidden number and stamp are below 2^64
+pub record HasSmallNumbers (r : Row) : Type 0 where
+  pub hidden : GivenFits r.hidden
+  pub stamp : GivenFits r.stamp
+
+-- and so are those of all rows in a commit's changes, and its moment
+pub record NumbersFit (c : Commit) : Type 0 where
+  pub moment : c.moment < 2 ^ 64
+  pub rows : AllByRecursion (λ change. AllByRecursion HasSmallNumbers (rows_of change)) (changes_in c.body)

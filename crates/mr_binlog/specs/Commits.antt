@@ -1,8 +1,10 @@
 -- The commits of a binary log, with the places of their records.
-use Rattle.std.specs.Prelude.{◌≡◌, ℕ, ◌+◌, List, [], ◌∷◌, ◌++◌, length, map, Option, Some, None, Result, Ok, Err, true}
+use Rattle.std.specs.Prelude.{◌≡◌, ◌≤◌, ℕ, ◌+◌, List, [], ◌∷◌, ◌++◌, length, map, Option, Some, None, Result, Ok, Err, true}
 use Rattle.std.specs.Option.{option_map}
 use Rattle.std.specs.List.{list_all}
 use Rattle.mr_base.specs.Disk.{Image}
+use Rattle.mr_base.specs.declared.stop.Stop.{Stop}
+use Rattle.mr_base.specs.declared.stop.Stop.TheVariants.{Damaged}
 use Rattle.mr_types.specs.declared.row.Commit.{Commit}
 use Rattle.mr_fields.specs.Fields.{is_byte}
 use Rattle.mr_gate.specs.Log.{records_from, span}
@@ -38,9 +40,17 @@ pub record IsRead (at : ℕ) (c : Commit) (next : ℕ) : Type 0 where
   pub back : reads_commit (commit_bytes c) ≡ Ok c
   pub place : next ≡ at + (5 + length (commit_bytes c))
 
--- the record at a place has a body that is no commit
-abbrev pub IsNoCommit : ℕ → List ℕ → Type 0
-IsNoCommit at file = (body : List ℕ) × (next : ℕ) × (left : ℕ) × (records_from at file ≡ body ∷ records_from next file) × (reads_commit body ≡ Err left)
+-- the body of the record at a place is no commit, and the stop tells where in the file its first offence stands
+abbrev pub IsOffence : ℕ → List ℕ → Stop → Type 0
+IsOffence at body stop = (place : ℕ) × (reads_commit body ≡ Err place) × (stop ≡ Damaged 1 (at + 5 + place))
+
+-- it tells an offence in a body that ends at this end at most
+abbrev pub SaysOffence : ℕ → ℕ → Stop → Type 0
+SaysOffence at end stop = (body : List ℕ) × (at + 5 + length body ≤ end) × IsOffence at body stop
+
+-- it tells the offence in the body of the record at a place
+abbrev pub IsNoCommit : ℕ → List ℕ → Stop → Type 0
+IsNoCommit at file stop = (body : List ℕ) × (next : ℕ) × (records_from at file ≡ body ∷ records_from next file) × IsOffence at body stop
 
 -- One commit more: where records hold these commits, they and one whose body is this commit hold these and it, at the place where
 -- the records end.

@@ -15,12 +15,16 @@
 //!     00 02   01 00 00 00 00 00 00 00 01   01 00 00 00 00 00 00 00 02
 
 ghost use Rattle.std.specs.Prelude.{◌≡◌, ◌++◌, IfOk, OnOk, Ok};
+ghost use Rattle.std.specs.List.{AllByRecursion};
 ghost use Rattle.byteorder.specs.Endian.{big_bytes};
 ghost use Rattle.mr_fields.specs.Fields.{name_bytes, listed_bytes};
+ghost use Rattle.mr_fields.specs.Fitting.{GivenFits};
 ghost use Rattle.mr_spec.specs.RowForm.{row_bytes};
+ghost use Rattle.mr_spec.specs.Rows.{rows_of};
+ghost use Rattle.mr_spec.specs.Database.{changes_in};
 ghost use Rattle.mr_schema.specs.DefinitionForm.{key_bytes};
 ghost use Rattle.mr_binlog.specs.CommitForm.{change_bytes, schema_bytes, body_bytes, commit_bytes, reads_commit};
-ghost use Rattle.mr_binlog.specs.CommitFitting.{CommitFits};
+ghost use Rattle.mr_binlog.specs.CommitFitting.{CommitFits, HasSmallNumbers, NumbersFit};
 
 use mr_base::{Blob, Memory};
 use mr_fields::{write_byte, write_name, write_row, write_u32, write_u64};
@@ -28,15 +32,35 @@ use mr_schema::{write_definition, write_key};
 use mr_types::{Change, Commit, CommitBody, IndexDef, Row, Schema};
 use std::alloc::Global;
 
-fn write_named_row(out: &mut Vec<u8>, table: &Blob, row: &Row) -> Result<(), Memory>
-    ensures { OnOk result (out.new.items ≡ out.old.items ++ (name_bytes table.now ++ row_bytes row.now)) }
+/// A number that may be missing is of 64 bits.
+fn given_fits(number: &Option<u64>)
+    ensures { GivenFits number.now }
 {
+    if let Some(number) = number {
+        let _value = *number;
+    }
+}
+
+/// So are a row's hidden number and its stamp.
+fn has_small_numbers(row: &Row)
+    ensures { HasSmallNumbers row.now }
+{
+    given_fits(&row.hidden);
+    given_fits(&row.stamp);
+}
+
+fn write_named_row(out: &mut Vec<u8>, table: &Blob, row: &Row) -> Result<(), Memory>
+    ensures written { OnOk result (out.new.items ≡ out.old.items ++ (name_bytes table.now ++ row_bytes row.now)) }
+    ensures numbers { OnOk result (HasSmallNumbers row.now) }
+{
+    has_small_numbers(row);
     write_name(out, table.as_slice())?;
     write_row(out, row)
 }
 
 fn write_change(out: &mut Vec<u8>, change: &Change) -> Result<(), Memory>
-    ensures { OnOk result (out.new.items ≡ out.old.items ++ change_bytes change.now) }
+    ensures written { OnOk result (out.new.items ≡ out.old.items ++ change_bytes change.now) }
+    ensures numbers { OnOk result (AllByRecursion HasSmallNumbers (rows_of change.now)) }
 {
     match change {
         Change::Insert { table, new } => {
@@ -46,6 +70,7 @@ fn write_change(out: &mut Vec<u8>, change: &Change) -> Result<(), Memory>
         Change::Update { table, old, new } => {
             write_byte(out, 2)?;
             write_named_row(out, table, old)?;
+            has_small_numbers(new);
             write_row(out, new)
         }
         Change::Delete { table, old } => {
@@ -56,7 +81,8 @@ fn write_change(out: &mut Vec<u8>, change: &Change) -> Result<(), Memory>
 }
 
 fn write_each_change(out: &mut Vec<u8>, changes: &[Change]) -> Result<(), Memory>
-    ensures { OnOk result (out.new.items ≡ out.old.items ++ listed_bytes change_bytes changes.now) }
+    ensures written { OnOk result (out.new.items ≡ out.old.items ++ listed_bytes change_bytes changes.now) }
+    ensures numbers { OnOk result (AllByRecursion (λ change. AllByRecursion HasSmallNumbers (rows_of change)) changes.now) }
 {
     'writing: for change in changes {
         write_change(out, change)?;
@@ -112,7 +138,8 @@ fn write_schema(out: &mut Vec<u8>, change: &Schema) -> Result<(), Memory>
 }
 
 fn write_body(out: &mut Vec<u8>, body: &CommitBody) -> Result<(), Memory>
-    ensures { OnOk result (out.new.items ≡ out.old.items ++ body_bytes body.now) }
+    ensures written { OnOk result (out.new.items ≡ out.old.items ++ body_bytes body.now) }
+    ensures numbers { OnOk result (AllByRecursion (λ change. AllByRecursion HasSmallNumbers (rows_of change)) (changes_in body.now)) }
 {
     match body {
         CommitBody::Rows(changes) => {
@@ -129,6 +156,7 @@ fn write_body(out: &mut Vec<u8>, body: &CommitBody) -> Result<(), Memory>
 pub fn write_commit(alloc: Global, commit: &Commit) -> Result<Blob, Memory>
     ensures written { IfOk result (λ b. b ≡ commit_bytes commit.now) }
     ensures reads_back { CommitFits commit.now → IfOk result (λ b. reads_commit b ≡ Ok commit.now) }
+    ensures numbers { OnOk result (NumbersFit commit.now) }
 {
     let mut out = Vec::new(alloc);
     write_u64(&mut out, commit.moment)?;

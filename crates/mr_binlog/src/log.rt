@@ -8,7 +8,7 @@ ghost use Rattle.mr_base.specs.Calls.{Same, Rises, Reads, During, OneFile, Count
 ghost use Rattle.mr_gate.specs.Log.{records_from, end_from, is_damaged_from, record_bytes};
 ghost use Rattle.mr_gate.specs.Gate.{Stands, KeepsLog, IsDamage, SaysDamage, IsBeforeOrAfter, IsAfter, Reaches, OnlyReads, IsUntouched, HasNoRoom, full, next_size};
 ghost use Rattle.mr_binlog.specs.CommitForm.{commit_bytes, reads_commit};
-ghost use Rattle.mr_binlog.specs.Commits.{IsNextCommit, IsNoCommit, IsRead};
+ghost use Rattle.mr_binlog.specs.Commits.{IsNextCommit, IsNoCommit, IsOffence, SaysOffence, IsRead};
 ghost use Rattle.mr_binlog.specs.Counting.{commits as count_of, with_body, stopped};
 
 use crate::commit_read::read_commit;
@@ -43,19 +43,20 @@ impl Model for Binlog {
     ghost invariant = { λ b. (b.log.file ≡ 1) × (b.before ≤ b.log.from) };
 }
 
-/// The commit that a body is; any other body is damage at its record's place.
+/// The commit that a body is, whose record begins at this place; any other body is damage at the place of its first offence.
 fn commit_of(alloc: Global, at: u64, body: &[u8]) -> Result<Commit, Stop>
+    requires fits { at + 5 + length body.now < 2 ^ 64 }
     ensures ok { IfOk result (λ c. reads_commit body.now ≡ Ok c) }
     ensures form { IfOk result (λ c. body.now ≡ commit_bytes c) }
     ensures bytes { IfOk result (λ c. list_all is_byte (commit_bytes c) ≡ true) }
-    ensures err { IfErr result (λ e. (e ≡ Stop.Memory) ⊎ ((e ≡ Stop.Damaged 1 at) × IsErr (reads_commit body.now))) }
+    ensures err { IfErr result (λ e. (e ≡ Stop.Memory) ⊎ IsOffence at body.now e) }
 {
     match read_commit(alloc, body) {
         Ok(commit) => Ok(commit),
         Err(DefAnswer::Memory) => Err(Stop::Memory),
-        Err(DefAnswer::Malformed(_)) => Err(Stop::Damaged {
+        Err(DefAnswer::Malformed(place)) => Err(Stop::Damaged {
             file: BINARY_LOG,
-            at,
+            at: at + RECORD_HEAD + place,
         }),
     }
 }
@@ -78,6 +79,9 @@ impl Binlog {
         // There is damage of the log exactly where it says so.
         ensures damaged { Tells (D.disk disk.old) → IfErr result (λ e. (e ≡ Stop.Disk) ⊎ IsDamage 1 place (file_of (D.disk disk.old) 1).bytes e) }
         ensures sound { Tells (D.disk disk.old) → OnOk result (is_damaged_from place (file_of (D.disk disk.old) 1).bytes ≡ false) }
+        // A damaged log is left as it is, whatever the answer.
+        ensures left { Tells (D.disk disk.old) → is_damaged_from place (file_of (D.disk disk.old) 1).bytes ≡ true
+            → OnlyReads (D.disk disk.old) (D.disk disk.new) }
 
         ensures before { IfOk result (λ log. log.before ≡ commits) }
         ensures is_open { IfOk result (λ log. (log.gate.is_open ≡ true) × (log.gate.file ≡ 1) × (log.gate.from ≡ place) × (log.gate.limit ≡ limit)) }
@@ -139,7 +143,8 @@ impl Binlog {
     }
 
     /// The commit at a place, and the next place. None comes exactly at the end of the commits. A body
-    /// that is no commit is damage at its record's place.
+    /// that is no commit is damage at the place of its first offence: five bytes behind its record's
+    /// place stands the body's first byte. A record that has no whole body is damage at its own place.
     pub fn read<D: Disk>(
         &self,
         alloc: Global,
@@ -151,7 +156,7 @@ impl Binlog {
         ensures counts { Counts 2 (5 + 2 ^ 29) 0 (D.disk disk.old) (D.disk disk.new) }
         ensures failed { result ≡ Err Stop.Disk → HasRisen (D.disk disk.old).faults (D.disk disk.new).faults }
         ensures same { Tells (D.disk disk.old) → Same (D.disk disk.old) (D.disk disk.new) }
-        ensures answers { IfErr result (λ e. (e ≡ Stop.Disk) ⊎ ((e ≡ Stop.Memory) ⊎ (e ≡ Stop.Damaged 1 at))) }
+        ensures answers { IfErr result (λ e. (e ≡ Stop.Disk) ⊎ ((e ≡ Stop.Memory) ⊎ ((e ≡ Stop.Damaged 1 at) ⊎ SaysOffence at self.now.gate.end e))) }
         ensures at_end { at ≡ self.now.gate.end → (result ≡ Ok None) × IsUntouched (D.disk disk.old) (D.disk disk.new) }
         ensures only_at_end { result ≡ Ok None → at ≡ self.now.gate.end }
         ensures ahead { IfOk result (λ o. IfSome o (λ r. IsRead at r.0 r.1 × (r.1 ≤ self.now.gate.end))) }
@@ -160,7 +165,7 @@ impl Binlog {
         ensures read { Tells (D.disk disk.old) → Reaches self.now.gate.end at (file_of (D.disk disk.old) 1).bytes
             → IfOk result (IsNextCommit at (file_of (D.disk disk.old) 1).bytes) }
         ensures err { Tells (D.disk disk.old) → Reaches self.now.gate.end at (file_of (D.disk disk.old) 1).bytes
-            → IfErr result (λ e. (e ≡ Stop.Disk) ⊎ ((e ≡ Stop.Memory) ⊎ ((e ≡ Stop.Damaged 1 at) × IsNoCommit at (file_of (D.disk disk.old) 1).bytes))) }
+            → IfErr result (λ e. (e ≡ Stop.Disk) ⊎ ((e ≡ Stop.Memory) ⊎ IsNoCommit at (file_of (D.disk disk.old) 1).bytes e)) }
         ensures cost { Tells (D.disk disk.old) → Reaches self.now.gate.end at (file_of (D.disk disk.old) 1).bytes
             → Reads 2 (next_size at (file_of (D.disk disk.old) 1).bytes) (D.disk disk.old) (D.disk disk.new) }
     {

@@ -1,31 +1,52 @@
 //! The numbered files of a folder. File f is `f.mr`, with f in decimal.
 //!
 //! A file that an earlier process left is synced as it is opened, so that what a read gives of it is on the disk. A file
-//! is made by the first write to it, after its folder where that is missing too.
+//! is made by the first write to it, after its folder where that is missing too. Only a regular file is opened, and no
+//! link is followed.
 ghost use Rattle.std.specs.Prelude.{◌≤◌, length, IfOk};
 
-use std::alloc::Global;
-use std::collections::BTreeMap;
+use crate::folder::{Folder, Locking, out_of_memory};
+use std::alloc::{AllocError, Global};
 use std::fs::{OpenFile, OpenOptions};
 use std::io;
 use std::os::unix::fs::FileExt;
-use std::path::Path;
 use std::rt::Files;
+
+/// How many files can be used for which all memory is taken at first.
+const ROOM: usize = 16;
+
+/// How often a call that is interrupted is tried.
+pub(crate) const MOST_TRIES: u32 = 1024;
+
+/// A file that was used.
+#[derive(Drop)]
+struct Opened<F> {
+    number: u64,
+    file: F,
+}
 
 /// A folder and its files that were used.
 #[derive(Drop)]
 pub(crate) struct FolderFiles<R: Files> {
     pub(crate) rt: R,
-    alloc: Global,
-    folder: String,
-    open: BTreeMap<u64, R::File>,
-    /// A crash may still take a file from the folder's list.
-    is_folder_behind: bool,
-    /// A crash may still take the folder, which was made here, from the list that it stands in.
-    is_parent_behind: bool,
+    folder: Folder<R>,
+    open: Vec<Opened<R::File>>,
     /// A sync failed, and the system may have dropped what it couldn't write. So no later sync is believed, and no more
     /// files are opened.
     has_lost: bool,
+}
+
+/// Reads some bytes from this place on. An interrupted read goes on.
+fn read_some<F: FileExt>(file: &F, at: u64, out: &mut [u8]) -> io::Result<usize>
+    ensures { IfOk result (λ n. n ≤ length out.old) }
+{
+    for _ in 0..MOST_TRIES {
+        match file.read_at(out, at) {
+            Err(error) if error.kind() == io::ErrorKind::Interrupted => {}
+            answer => return answer,
+        }
+    }
+    Err(io::ErrorKind::Interrupted.into())
 }
 
 /// Fills the front of `out` from this place on, up to the file's end.
@@ -35,7 +56,7 @@ fn read_full<F: FileExt>(file: &F, at: u64, out: &mut [u8]) -> io::Result<usize>
     let mut got = 0;
     while got < out.len() {
         let place = at.saturating_add(got as u64);
-        match file.read_at(&mut out[got..], place)? {
+        match read_some(file, place, &mut out[got..])? {
             0 => break,
             more => got += more,
         }
@@ -43,40 +64,25 @@ fn read_full<F: FileExt>(file: &F, at: u64, out: &mut [u8]) -> io::Result<usize>
     Ok(got)
 }
 
-/// Syncs a folder's list of files. A file system that has no such sync answers `InvalidInput`.
-fn sync_folder<R: Files>(rt: &R, folder: &str) -> io::Result<()> {
-    let opened = OpenOptions::new().read(true).open(rt, folder)?;
-    match opened.sync_all() {
-        Err(error) if error.kind() == io::ErrorKind::InvalidInput => Ok(()),
-        answer => answer,
-    }
-}
-
-/// The folder that holds this one.
-fn parent_of(folder: &str) -> &str {
-    match Path::new(folder).parent() {
-        Some(parent) if !parent.as_str().is_empty() => parent.as_str(),
-        Some(_) => ".",
-        None => folder,
+impl<R: Files + Drop> FolderFiles<R>
+where
+    R::File: FileExt + Locking,
+{
+    /// Touches nothing.
+    pub(crate) fn new(rt: R, alloc: Global, folder: &str) -> Result<FolderFiles<R>, AllocError> {
+        Ok(FolderFiles {
+            rt,
+            folder: Folder::new(alloc, folder)?,
+            open: Vec::with_capacity(alloc, ROOM)?,
+            has_lost: false,
+        })
     }
 }
 
 impl<R: Files> FolderFiles<R>
 where
-    R::File: FileExt,
+    R::File: FileExt + Locking,
 {
-    pub(crate) fn new(rt: R, alloc: Global, folder: String) -> FolderFiles<R> {
-        FolderFiles {
-            rt,
-            alloc,
-            folder,
-            open: BTreeMap::new(alloc),
-            is_folder_behind: true,
-            is_parent_behind: false,
-            has_lost: false,
-        }
-    }
-
     /// Reads from a place on up to the file's end.
     pub(crate) fn read(&mut self, number: u64, at: u64, out: &mut [u8]) -> io::Result<usize>
         ensures { IfOk result (λ n. n ≤ length out.old) }
@@ -114,7 +120,7 @@ where
         }
     }
 
-    /// Puts the file on the disk, and its place in the folder.
+    /// Puts the file on the disk, and its place in the folder, and the folder's in the one that it stands in.
     pub(crate) fn sync(&mut self, number: u64) -> io::Result<()> {
         self.check_lost()?;
         let answer = self.try_sync(number);
@@ -127,7 +133,7 @@ where
             Some(file) => file.sync_data()?,
             None => return Ok(()),
         }
-        self.sync_lists()
+        self.folder.sync_lists(&self.rt)
     }
 
     fn check_lost(&self) -> io::Result<()> {
@@ -138,47 +144,50 @@ where
         }
     }
 
-    /// Syncs those lists of files that may be behind.
-    fn sync_lists(&mut self) -> io::Result<()> {
-        if self.is_parent_behind {
-            sync_folder(&self.rt, parent_of(self.folder.as_str()))?;
-            self.is_parent_behind = false;
-        }
-        if self.is_folder_behind {
-            sync_folder(&self.rt, self.folder.as_str())?;
-            self.is_folder_behind = false;
-        }
-        Ok(())
+    /// Where the file stands among those that were used.
+    fn place_of(&self, number: u64) -> Option<usize> {
+        self.open.iter().position(|opened| opened.number == number)
     }
 
     /// The file, opened where it isn't yet. None where it is missing.
     fn find(&mut self, number: u64) -> io::Result<Option<&R::File>> {
-        if !self.open.contains_key(&number) {
+        if self.place_of(number).is_none() && self.folder.hold(&self.rt)? {
             self.open_old(number)?;
         }
-        Ok(self.open.get(&number))
+        let Some(place) = self.place_of(number) else {
+            return Ok(None);
+        };
+        match self.open.get(place) {
+            Some(opened) => Ok(Some(&opened.file)),
+            None => Ok(None),
+        }
     }
 
-    /// Opens a file that an earlier process left, if it did.
+    /// Opens a file that an earlier process left, if it did. It is an error that it is a link, or else no regular file.
     fn open_old(&mut self, number: u64) -> io::Result<()> {
         self.check_lost()?;
-        let path = self.path_of(number)?;
-        match OpenOptions::new()
+        let path = self.folder.file(number)?;
+        match self.rt.symlink_metadata(path) {
+            Ok(found) if found.is_file() => {}
+            Ok(_) => return Err(io::ErrorKind::InvalidInput.into()),
+            Err(error) if error.kind() == io::ErrorKind::NotFound => return Ok(()),
+            Err(error) => return Err(error),
+        }
+        let file = OpenOptions::new()
             .read(true)
             .write(true)
-            .open(&self.rt, path)
-        {
-            Ok(file) => self.settle(number, &file),
-            Err(error) if error.kind() == io::ErrorKind::NotFound => Ok(()),
-            Err(error) => Err(error),
+            .open(&self.rt, path)?;
+        if !file.metadata()?.is_file() {
+            return Err(io::ErrorKind::InvalidInput.into());
         }
+        self.settle(number, &file)
     }
 
     /// Keeps a file that was there, once it is on the disk.
     fn settle(&mut self, number: u64, file: &R::File) -> io::Result<()> {
         self.has_lost = true;
         file.sync_data()?;
-        self.sync_lists()?;
+        self.folder.sync_lists(&self.rt)?;
         self.has_lost = false;
         self.keep(number, file)
     }
@@ -186,38 +195,25 @@ where
     /// Keeps a second handle of the file. The system gives no second handle the number of a standard stream, which the
     /// first one has where that stream was closed when the program began.
     fn keep(&mut self, number: u64, file: &R::File) -> io::Result<()> {
-        self.open.insert(number, file.try_clone()?)?;
-        Ok(())
+        let file = file.try_clone()?;
+        match self.open.push(Opened { number, file }) {
+            Ok(()) => Ok(()),
+            Err(_) => Err(out_of_memory()),
+        }
     }
 
-    /// Makes a file that is missing, after its folder.
+    /// Makes a file that is missing, after its folder. It is an error that there is one by now.
     fn make(&mut self, number: u64) -> io::Result<()> {
-        self.make_folder()?;
-        let path = self.path_of(number)?;
-        self.is_folder_behind = true;
+        if !self.folder.hold(&self.rt)? {
+            self.folder.make(&self.rt)?;
+        }
+        self.folder.is_changing();
+        let path = self.folder.file(number)?;
         let file = OpenOptions::new()
             .read(true)
             .write(true)
-            .create(true)
+            .create_new(true)
             .open(&self.rt, path)?;
         self.keep(number, &file)
-    }
-
-    /// Makes the folder where it is missing, and none that would hold it.
-    fn make_folder(&mut self) -> io::Result<()> {
-        match self.rt.create_dir(self.folder.as_str()) {
-            Ok(()) => self.is_parent_behind = true,
-            Err(error) if error.kind() == io::ErrorKind::AlreadyExists => {}
-            Err(error) => return Err(error),
-        }
-        Ok(())
-    }
-
-    fn path_of(&self, number: u64) -> io::Result<String> {
-        if self.folder.is_empty() {
-            return Err(io::ErrorKind::InvalidInput.into());
-        }
-        let folder = self.folder.as_str();
-        Ok(format!(in self.alloc; "{folder}/{number}.mr")?)
     }
 }

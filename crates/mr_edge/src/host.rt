@@ -6,15 +6,18 @@ ghost use Rattle.mr_base.specs.Disk.{HasRisen};
 ghost use Rattle.mr_base.specs.Calls.{Counts, EmitCounts};
 ghost use Rattle.mr_edge.specs.Untold.{untold};
 
-use crate::files::FolderFiles;
+use crate::files::{FolderFiles, MOST_TRIES};
+use crate::folder::Locking;
 use crate::tally::Tally;
 use mr_base::{Disk, DiskFault, EmitFault, Host, Memory};
 use std::alloc::Global;
+use std::io;
 use std::os::unix::fs::FileExt;
 use std::rt::Files;
 
 /// A real folder, where file number f is `f.mr`, and standard output. In a missing folder each file has length 0, and
-/// the first write makes the folder, but none that would hold it.
+/// the first write makes the folder, but none that would hold it. A folder that is there is locked by the first call on
+/// it until the host is dropped; while another host has it, each call is a fault, and nothing is touched.
 #[derive(Drop)]
 pub struct FolderHost<R: Files + Print> {
     files: FolderFiles<R>,
@@ -23,21 +26,34 @@ pub struct FolderHost<R: Files + Print> {
 
 impl<R: Files + Print + Drop> FolderHost<R>
 where
-    R::File: FileExt,
+    R::File: FileExt + Locking,
 {
-    /// Touches nothing. An empty name is of no folder: each call on it is a fault.
+    /// Touches nothing. An empty name is of no folder: each call on it is a fault. All memory for the first 16 files is
+    /// taken here, so that no later call on them wants any.
     pub fn new(rt: R, alloc: Global, folder: &str) -> Result<FolderHost<R>, Memory> {
-        let folder = String::from_str(alloc, folder)?;
         Ok(FolderHost {
-            files: FolderFiles::new(rt, alloc, folder),
+            files: FolderFiles::new(rt, alloc, folder)?,
             tally: Tally::default(),
         })
     }
 }
 
+/// Writes some of the bytes. An interrupted write goes on.
+fn write_some<R: Print>(rt: &R, piece: &[u8]) -> io::Result<usize>
+    ensures { IfOk result (λ n. n ≤ length piece.now) }
+{
+    for _ in 0..MOST_TRIES {
+        match rt.write_some(piece) {
+            Err(error) if error.kind() == io::ErrorKind::Interrupted => {}
+            answer => return answer,
+        }
+    }
+    Err(io::ErrorKind::Interrupted.into())
+}
+
 impl<R: Files + Print> Disk for FolderHost<R>
 where
-    R::File: FileExt,
+    R::File: FileExt + Locking,
 {
     ghost disk = { λ h. untold h.tally };
 
@@ -85,11 +101,11 @@ where
 
 impl<R: Files + Print> Host for FolderHost<R>
 where
-    R::File: FileExt,
+    R::File: FileExt + Locking,
 {
     /// One write to standard output. One that takes nothing of a piece is a fault.
     fn emit(&mut self, piece: &[u8]) -> Result<usize, EmitFault> {
-        match self.files.rt.write_some(piece) {
+        match write_some(&self.files.rt, piece) {
             Ok(written) if written > 0 || piece.is_empty() => Ok(written),
             _ => Err(self.tally.not_emitted()),
         }

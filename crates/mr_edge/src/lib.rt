@@ -5,11 +5,13 @@
 
 mod clock;
 mod files;
+mod folder;
 mod host;
 mod input;
 mod tally;
 
 pub use clock::SystemClock;
+pub use folder::Locking;
 pub use host::FolderHost;
 pub use input::StdinSource;
 

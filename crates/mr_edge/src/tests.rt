@@ -1,8 +1,9 @@
-//! A folder that is missing, then written, then opened again by another host.
+//! A folder that is missing, then written, then opened again by another host, once the first one has let it go.
 
 use super::*;
 use mr_base::Disk;
 use std::fs;
+use std::fs::Files;
 use std::test::Fail;
 
 const FOLDER: &str = "edge test folder";
@@ -28,7 +29,11 @@ fn a_folder_is_made_and_kept(rt: HostRuntime) -> Result<(), Fail> {
     assert_eq!(rt; host.read(LOG, 1, &mut out)?, 4);
     assert!(rt; out.starts_with(b"bXYe"));
 
+    // The folder is locked until the host is dropped.
     let mut again = FolderHost::new(&rt, rt.alloc(), FOLDER)?;
+    assert!(rt; again.length(LOG).is_err());
+    assert!(rt; again.write_at(LOG, 0, b"a").is_err());
+    drop(host);
     assert_eq!(rt; again.length(LOG)?, 5);
     assert_eq!(rt; again.read(LOG, 3, &mut out)?, 2);
     assert!(rt; out.starts_with(b"Ye"));
@@ -36,6 +41,12 @@ fn a_folder_is_made_and_kept(rt: HostRuntime) -> Result<(), Fail> {
     let mut lost = FolderHost::new(&rt, rt.alloc(), "no such folder/below")?;
     assert_eq!(rt; lost.length(LOG)?, 0);
     assert!(rt; lost.write_at(LOG, 0, b"a").is_err());
+
+    // A link isn't followed, and a folder is no file.
+    rt.symlink("1.mr", "edge test folder/2.mr")?;
+    rt.create_dir("edge test folder/3.mr")?;
+    assert!(rt; again.length(2).is_err());
+    assert!(rt; again.length(3).is_err());
 
     fs::remove_dir_all(&rt, FOLDER)?;
     Ok(())

@@ -30,7 +30,7 @@ use Rattle.mr_fields.specs.Fitting.{NameFits, ValueFits, GivenFits, RowFits}
 use Rattle.mr_schema.specs.DefinitionFitting.{ColumnFits, KeyFits, DefinitionFits}
 use Rattle.mr_schema.proofs.CheckedColumns.{assigned_fits}
 use Rattle.mr_schema.proofs.CheckedDefinitions.{checked_key_fits}
-use Rattle.mr_binlog.specs.CommitFitting.{ChangeFits, BodyFits, CommitFits}
+use Rattle.mr_binlog.specs.CommitFitting.{NumbersFit, ChangeFits, BodyFits, CommitFits}
 use Rattle.mr_sound.specs.Sound.{IsIn}
 use Rattle.mr_sound.proofs.Basics.{both, joined, any-some}
 use Rattle.mr_sound.proofs.EqualRows.{equal-value}
@@ -41,7 +41,7 @@ use Rattle.mr_sound.proofs.Fits.{fits-literal}
 use Rattle.mr_sound.proofs.NewFits.{Fit, row-fit, fit-length}
 use Rattle.mr_sound.proofs.Well.{AreWell, well-body, well-changed, lawful-of, well-none}
 use Rattle.mr_sound.proofs.Schemas.{bytes-same}
-use Rattle.mr_forms.specs.Forms.{NumbersFit}
+use Rattle.mr_forms.proofs.SmallRows.{in-recursion, row-small}
 use Rattle.mr_forms.proofs.Lengths.{recursion-in}
 use Rattle.mr_forms.proofs.Short.{AreShort, short-body, checked-short, named-length}
 
@@ -107,10 +107,6 @@ module _ (m : ℕ) (ts : List Table) (cs : List Change) (w : AreWell ts) (h : Ar
   change-fits (Update table old new) i = (table-fits (Update table old new) old i (inl refl), fits-in (Update table old new) old i (inl refl), fits-in (Update table old new) new i (inr (inl refl)))
   change-fits (Delete table old) i = (table-fits (Delete table old) old i (inl refl), fits-in (Delete table old) old i (inl refl))
 
-all-in-list : {X : Type 0} (P : X → Type 0) (xs : List X) → ((x : X) → IsIn x xs → P x) → AllByRecursion P xs
-all-in-list P [] h = tt
-all-in-list P (x ∷ xs) h = (h x (inl refl), all-in-list P xs (λ y i. h y (inr i)))
-
 one-each : (k : ℕ) (c : Change) → 1 ≤ weight_of k c
 one-each k c = let s = sum_by row_size (rows_of c) in omega arith
 
@@ -153,10 +149,10 @@ named-fits key d e fits =
 -- ---- bodies
 
 body-fits : (m : ℕ) (ts : List Table) (c : Commit) → AreWell ts → AreShort ts → LawfulBody m ts c.body → NumbersFit c → BodyFits c.body
-body-fits m ts c w h l n = by_body c.body l n.hidden n.stamp
+body-fits m ts c w h l n = by_body c.body l (λ d r i j. (row-small c n d r i j).hidden) (λ d r i j. (row-small c n d r i j).stamp)
   where
     by_body : (b : CommitBody) → LawfulBody m ts b → ((d : Change) (r : Row) → IsIn d (changes_in b) → IsIn r (rows_of d) → GivenFits r.hidden) → ((d : Change) (r : Row) → IsIn d (changes_in b) → IsIn r (rows_of d) → GivenFits r.stamp) → BodyFits b
-    by_body (body.Rows cs) l hidden stamp = ((let a = l.0 in omega (arith, a)), (let a = count-light ts cs in let b = l.2 in omega (arith, a, b)), all-in-list ChangeFits cs (change-fits m ts cs w h l.1 hidden stamp))
+    by_body (body.Rows cs) l hidden stamp = ((let a = l.0 in omega (arith, a)), (let a = count-light ts cs in let b = l.2 in omega (arith, a, b)), in-recursion ChangeFits cs (change-fits m ts cs w h l.1 hidden stamp))
     by_body (body.Schema (CreateTable def)) l hidden stamp = (checked-short def l.1).fits
     by_body (body.Schema (DropTable name)) l hidden stamp = name-fits name ts l.0 h l.1
     by_body (body.Schema (CreateIndex name key)) l hidden stamp =

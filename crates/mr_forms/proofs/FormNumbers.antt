@@ -9,9 +9,9 @@ use Rattle.mr_types.specs.declared.row.CommitBody.TheVariants as body
 use Rattle.mr_spec.specs.Rows.{rows_of}
 use Rattle.mr_spec.specs.Database.{changes_in}
 use Rattle.mr_fields.specs.Fitting.{RowFits}
-use Rattle.mr_binlog.specs.CommitFitting.{ChangeFits, BodyFits, CommitFits}
+use Rattle.mr_binlog.specs.CommitFitting.{NumbersFit, ChangeFits, BodyFits, CommitFits}
 use Rattle.mr_sound.specs.Sound.{IsIn}
-use Rattle.mr_forms.specs.Forms.{NumbersFit}
+use Rattle.mr_forms.proofs.SmallRows.{numbers-fit}
 use Rattle.mr_forms.proofs.Lengths.{recursion-in}
 
 row-in : (d : Change) (r : Row) → ChangeFits d → IsIn r (rows_of d) → RowFits r
@@ -28,4 +28,4 @@ rows-fit (body.Rows cs) h d r i j = row-in d r (recursion-in ChangeFits cs d h.2
 rows-fit (body.Schema s) h d r i j = absurd i
 
 pub form-numbers : (c : Commit) → CommitFits c → NumbersFit c
-form-numbers c h = record { moment = h.moment; hidden = λ d r i j. (rows-fit c.body h.body d r i j).hidden; stamp = λ d r i j. (rows-fit c.body h.body d r i j).stamp }
+form-numbers c h = numbers-fit c h.moment (λ d r i j. let f = rows-fit c.body h.body d r i j in record { hidden = f.hidden; stamp = f.stamp })

@@ -42,7 +42,7 @@ use Rattle.mr_spec.specs.SchemaSteps.{table_in, used_elsewhere, with_schema_chan
 use Rattle.mr_spec.specs.SessionSteps.{new_txn, with_savepoint, rolled_back_to, released, savepoint_in, savepoints_before, session_outcome}
 use Rattle.mr_spec.specs.Step.{outcome_of, commits_first, timed}
 use Rattle.mr_spec.specs.Replay.{last_moment, reopened}
-use Rattle.mr_binlog.specs.CommitFitting.{CommitFits}
+use Rattle.mr_binlog.specs.CommitFitting.{NumbersFit, HasSmallNumbers, CommitFits}
 use Rattle.mr_forms.proofs.Fitting.{lawful-fits}
 use Rattle.mr_spec.specs.ScriptRun.{world_after}
 use Rattle.mr_spec.proofs.Results.{bound, behind, either}
@@ -58,7 +58,8 @@ use Rattle.mr_sound.proofs.Schemas.{bytes-same, IsIdle}
 use Rattle.mr_sound.proofs.StatementsMade.{IsReady}
 use Rattle.mr_sound.proofs.Worlds.{found-in, sound-timed, sound-committed, sound-entered}
 use Rattle.mr_sound.proofs.Writes.{ready-rows}
-use Rattle.mr_forms.specs.Forms.{NumbersFit, HasSmallNumbers, HasRoom, IsOf64Bits}
+use Rattle.mr_forms.specs.Forms.{HasRoom, IsOf64Bits}
+use Rattle.mr_forms.proofs.SmallRows.{row-small, numbers-fit}
 use Rattle.mr_forms.proofs.Short.{short-commits}
 use Rattle.mr_forms.proofs.Bounded.{IsWithin, within-more, AreWithin, IsScene, StaysWithin, insert-within, replace-within, update-within, delete-within}
 
@@ -129,7 +130,7 @@ small-body ts (body.Schema s) h k = small-schema ts s h
 
 small-commits : (cs : List Commit) (ts : List Table) → TablesAreSmall ts → ((c : Commit) → IsIn c cs → NumbersFit c) → TablesAreSmall (with_commits ts cs)
 small-commits [] ts h k = h
-small-commits (c ∷ cs) ts h k = small-commits cs (with_body ts c.body) (small-body ts c.body h (λ d r i j. record { hidden = (k c (inl refl)).hidden d r i j; stamp = (k c (inl refl)).stamp d r i j })) (λ d i. k d (inr i))
+small-commits (c ∷ cs) ts h k = small-commits cs (with_body ts c.body) (small-body ts c.body h (row-small c (k c (inl refl)))) (λ d i. k d (inr i))
 
 small-seen : (w : World) → IsOf64Bits w → TablesAreSmall (view_of w.commits w.here.txn)
 small-seen w b = small-with (changes_by w.here.txn) (replay (take (seen_by w.here.txn (length w.commits)) w.commits))
@@ -149,7 +150,7 @@ of-commit w h b x e n = record {
 }
 
 of-rows : (w : World) (h : Session) (c : Change) (cs : List Change) → IsOf64Bits w → changes_by h.txn ≡ [] → ChangesAreSmall (c ∷ cs) → IsOf64Bits (with_commit (body.Rows (c ∷ cs)) (record w { here = h }))
-of-rows w h c cs x e k = of-commit w h (body.Rows (c ∷ cs)) x e (record { moment = x.moment; hidden = λ d r i j. (k d r i j).hidden; stamp = λ d r i j. (k d r i j).stamp })
+of-rows w h c cs x e k = of-commit w h (body.Rows (c ∷ cs)) x e (numbers-fit (record { moment = w.moment; body = body.Rows (c ∷ cs) }) x.moment k)
 
 of-here : (w : World) (h : Session) → IsOf64Bits w → ChangesAreSmall (changes_by h.txn) → IsOf64Bits (record w { here = h })
 of-here w h x k = record {
@@ -175,7 +176,7 @@ of-committed w x = by_changes (changes_by w.here.txn) (λ c r i j. x.held w.here
     by_changes (c ∷ cs) k = of-rows w (record w.here { txn = None }) c cs x refl k
 
 of-schema : (w : World) (s : Schema) → IsIdle w → IsOf64Bits w → IsOf64Bits (with_schema_change s w)
-of-schema w s idle x = of-commit w w.here (body.Schema s) x (ap changes_by idle) (record { moment = x.moment; hidden = λ d r i j. absurd i; stamp = λ d r i j. absurd i })
+of-schema w s idle x = of-commit w w.here (body.Schema s) x (ap changes_by idle) (numbers-fit (record { moment = w.moment; body = body.Schema s }) x.moment (λ d r i j. absurd i))
 
 -- ---- definitions
 

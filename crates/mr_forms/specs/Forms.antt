@@ -8,20 +8,8 @@ use Rattle.mr_types.specs.declared.row.Commit.{Commit}
 use Rattle.mr_spec.specs.declared.world.Session.{Session}
 use Rattle.mr_spec.specs.World.{World, changes_by}
 use Rattle.mr_spec.specs.Rows.{rows_of}
-use Rattle.mr_spec.specs.Database.{changes_in}
-use Rattle.mr_fields.specs.Fitting.{GivenFits}
+use Rattle.mr_binlog.specs.CommitFitting.{NumbersFit, HasSmallNumbers}
 use Rattle.mr_sound.specs.Sound.{IsIn}
-
--- the moment, the hidden numbers and the stamps are of 64 bits
-pub record NumbersFit (c : Commit) : Type 0 where
-  pub moment : c.moment < 2 ^ 64
-  pub hidden : (d : Change) (r : Row) → IsIn d (changes_in c.body) → IsIn r (rows_of d) → GivenFits r.hidden
-  pub stamp : (d : Change) (r : Row) → IsIn d (changes_in c.body) → IsIn r (rows_of d) → GivenFits r.stamp
-
--- the row's hidden number and stamp are of 64 bits
-pub record HasSmallNumbers (r : Row) : Type 0 where
-  pub hidden : GivenFits r.hidden
-  pub stamp : GivenFits r.stamp
 
 -- each next hidden number is at most 2^64, so that a row may still draw the one before it
 abbrev pub HasRoom : World → Type 0

@@ -4,14 +4,14 @@ ghost use Rattle.std.specs.Prelude.{◌≡◌, ℕ, ◌≤◌, ◌<◌, ◌^◌,
 ghost use Rattle.std.specs.List.{list_all};
 ghost use Rattle.mr_types.specs.declared.row.Commit.{Commit};
 ghost use Rattle.mr_types.specs.declared.statement.Statement.{Statement};
-ghost use Rattle.mr_binlog.specs.CommitFitting.{CommitFits};
+ghost use Rattle.mr_binlog.specs.CommitFitting.{CommitFits, NumbersFit};
 ghost use Rattle.mr_binlog.specs.CommitForm.{commit_bytes};
 ghost use Rattle.mr_spec.specs.Lawful.{IsLawful};
 ghost use Rattle.mr_spec.specs.Replay.{reopened, numbers_after};
 ghost use Rattle.mr_spec.specs.ScriptRun.{world_after, world_behind, run_of, added_by};
 ghost use Rattle.mr_spec.specs.World.{World};
 ghost use Rattle.mr_sound.specs.Sound.{IsIn, IsSound, IsSpelled};
-ghost use Rattle.mr_forms.specs.Forms.{NumbersFit, HasRoom, IsOf64Bits, AreRead};
+ghost use Rattle.mr_forms.specs.Forms.{HasRoom, IsOf64Bits, AreRead};
 
 /// A lawful commit's bytes are at most 2^29, which a record of the binary log may have.
 pub fn lawful_commits_are_short()

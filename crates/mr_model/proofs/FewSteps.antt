@@ -29,12 +29,12 @@ use Rattle.mr_spec.specs.RowSteps.{on_rows, select_answer, select_outcome, write
 use Rattle.mr_spec.specs.SchemaSteps.{created, create_table, drop_table, with_begun, begin_index, finish_index, cancel_index, create_index, drop_index, lock_tables, published}
 use Rattle.mr_spec.specs.SessionSteps.{rolled_back_to, released, session_outcome}
 use Rattle.mr_spec.specs.Step.{outcome_of, commits_first, begun}
-use Rattle.mr_model.specs.declared.engine.Engine.{Engine}
-use Rattle.mr_model.specs.Acting.{Gives}
-use Rattle.mr_model.specs.Worlds.{world_in}
-use Rattle.mr_model.specs.Few.{FewInBody, FewColumns}
-use Rattle.mr_model.proofs.Answering.{bound, behind, either, after}
-use Rattle.mr_model.proofs.FewChecked.{few_check}
+use Rattle.mr_model_engine.specs.declared.engine.Engine.{Engine}
+use Rattle.mr_model_statements.specs.Acting.{Gives}
+use Rattle.mr_model_engine.specs.Worlds.{world_in}
+use Rattle.mr_model_engine.specs.Few.{FewInBody, FewColumns}
+use Rattle.mr_model_engine.proofs.Answering.{bound, behind, either, after}
+use Rattle.mr_model_engine.proofs.FewChecked.{few_check}
 
 few_append : (cs : List Commit) (moment : ℕ) (b : CommitBody) → FewColumns cs → FewInBody b → FewColumns (cs ++ record { moment = moment; body = b } ∷ [])
 few_append [] moment b h g = (g, tt)

@@ -1,10 +1,4 @@
-pub mod Answering
-pub mod Current
 pub mod CutSteps
-pub mod FewChecked
 pub mod FewLawful
 pub mod FewSteps
-pub mod FewTables
-pub mod Moved
-pub mod Named
 pub mod RunSteps

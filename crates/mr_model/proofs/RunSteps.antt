@@ -10,7 +10,7 @@ use Rattle.mr_spec.specs.World.{World}
 use Rattle.mr_model.specs.declared.script.Player.{Player}
 use Rattle.mr_model.specs.declared.script.Ran.{Ran}
 use Rattle.mr_model.specs.Running.{IsRunFrom, IsSpent, IsPartlySpent, IsTaken, value_before, IsServed, GoesOn}
-use Rattle.mr_model.specs.Worlds.{world_in}
+use Rattle.mr_model_engine.specs.Worlds.{world_in}
 
 or_assoc : (a b c : Bool) → ((a || b) || c) ≡ (a || (b || c))
 or_assoc true b c = refl

@@ -1,12 +1,2 @@
-pub mod Acting
 pub mod Cuts
-pub mod Few
-pub mod First
-pub mod Keyed
-pub mod Locking
-pub mod Naming
-pub mod Opening
 pub mod Running
-pub mod Telling
-pub mod Worlds
-pub mod Writing

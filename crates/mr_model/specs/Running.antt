@@ -10,7 +10,7 @@ use Rattle.mr_spec.specs.Step.{step}
 use Rattle.mr_spec.specs.World.{World}
 use Rattle.mr_model.specs.declared.script.Player.{Player}
 use Rattle.mr_model.specs.declared.script.Ran.{Ran}
-use Rattle.mr_model.specs.Worlds.{world_in}
+use Rattle.mr_model_engine.specs.Worlds.{world_in}
 
 -- The run of these statements from this world, at values of the clock that are its own where it tells them: the replies,
 -- whether one of them is an `ERROR`, and all commits behind it.

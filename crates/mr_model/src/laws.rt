@@ -3,7 +3,7 @@
 ghost use Rattle.std.specs.Prelude.{List};
 ghost use Rattle.mr_types.specs.declared.row.Commit.{Commit};
 ghost use Rattle.mr_spec.specs.Lawful.{IsLawful};
-ghost use Rattle.mr_model.specs.Few.{FewColumns};
+ghost use Rattle.mr_model_engine.specs.Few.{FewColumns};
 
 /// Lawful commits make tables of at most 64 columns, as `step` and `run_script` want.
 pub fn lawful_commits_are_few()

@@ -1,16 +1,16 @@
 //! The run of a script.
 
 ghost use Rattle.std.specs.Prelude.{◌≡◌, ◌++◌, [], OnOk, OnErr, IfOk};
-ghost use Rattle.mr_model.specs.Few.{FewColumns};
+ghost use Rattle.mr_model_engine.specs.Few.{FewColumns};
 ghost use Rattle.mr_model.specs.Running.{IsRunFrom, IsRun, IsSpent, IsPartlySpent};
-ghost use Rattle.mr_model.specs.Worlds.{world_in};
+ghost use Rattle.mr_model_engine.specs.Worlds.{world_in};
 ghost use Rattle.mr_spec.specs.ReplyText.{text_of};
 ghost use Rattle.mr_spec.specs.ScriptRun.{is_refusal as refusal_of, statements_of as statements_in};
 
 use crate::cutting::{Read, statements_of};
-use crate::engine::Engine;
 use crate::statement_step::step;
 use mr_base::{Blob, Clock, Memory};
+use mr_model_engine::Engine;
 use mr_print::reply_text;
 use mr_types::{Commit, Reply};
 use sqlite_items::Items;

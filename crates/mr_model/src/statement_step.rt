@@ -3,17 +3,18 @@
 ghost use Rattle.std.specs.Prelude.{◌≡◌, OnOk};
 ghost use Rattle.mr_types.specs.declared.statement.Statement.TheVariants as kinds;
 ghost use Rattle.mr_spec.specs.Step.{commits_first as first_commits, outcome_of as outcome_in_world, begun, step as step_in};
-ghost use Rattle.mr_model.specs.Acting.{Gives, outcome_in};
-ghost use Rattle.mr_model.specs.Few.{FewColumns};
-ghost use Rattle.mr_model.specs.Worlds.{world_in};
+ghost use Rattle.mr_model_statements.specs.Acting.{Gives, outcome_in};
+ghost use Rattle.mr_model_engine.specs.Few.{FewColumns};
+ghost use Rattle.mr_model_engine.specs.Worlds.{world_in};
 
 use crate::cutting::Read;
-use crate::engine::Engine;
-use crate::index_steps::{begin_index, cancel_index, create_index, drop_index, finish_index};
-use crate::row_steps::{Writing, answered, select, write};
-use crate::schema_steps::{create_table, drop_table, lock_tables};
-use crate::session_steps::{begin, disconnect, release, roll_back_to, savepoint, session};
 use mr_base::Memory;
+use mr_model_engine::Engine;
+use mr_model_statements::{
+    Writing, answered, begin, begin_index, cancel_index, create_index, create_table, disconnect,
+    drop_index, drop_table, finish_index, lock_tables, release, roll_back_to, savepoint, select,
+    session, write,
+};
 use mr_types::{Reply, Statement};
 use std::alloc::Global;
 

@@ -1,4 +1,5 @@
 pub mod Basics
+pub mod Containing
 pub mod SameKeys
 pub mod EqualRows
 pub mod RowLists
@@ -15,6 +16,8 @@ pub mod Schemas
 pub mod Writes
 pub mod Steps
 pub mod Scripts
+pub mod Holding
 pub mod Drawing
 pub mod Numbered
+pub mod Tuples
 pub mod Growing

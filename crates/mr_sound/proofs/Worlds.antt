@@ -1,6 +1,7 @@
 -- Sound worlds stay sound where a session's transaction changes, and where a commit is added.
-use Rattle.std.proofs.Common.{◌≡◌, inl, inr, ℕ, ◌≤◌, max, Bool, true, false, cond, List, [], ◌∷◌, ◌++◌, length, take, filter, find, Option, Some, None, option_map, unwrap_or, refl, ap, sym, subst, ◌∙◌, le_refl, le_trans, arith}
+use Rattle.std.proofs.Common.{◌≡◌, inl, inr, ℕ, ◌≤◌, max, Bool, true, false, cond, List, [], ◌∷◌, ◌++◌, length, take, drop, filter, find, Option, Some, None, option_map, unwrap_or, refl, ap, sym, subst, ◌∙◌, le_refl, le_trans, arith}
 use Rattle.std.specs.Prelude.{not}
+use Rattle.std.specs.List.{list_any}
 use Rattle.std.proofs.lemmas.Option.{none-some}
 use Rattle.mr_spec.specs.declared.world.Session.{Session}
 use Rattle.mr_spec.specs.declared.world.Table.{Table}
@@ -13,7 +14,7 @@ use Rattle.mr_types.specs.declared.row.CommitBody.TheVariants as body
 use Rattle.mr_types.specs.declared.row.Schema.{Schema}
 use Rattle.mr_types.specs.Values.{same_bytes}
 use Rattle.mr_spec.specs.Rows.{rows_of, table_name, same_primary}
-use Rattle.mr_spec.specs.Database.{table_of, replay, schema_table}
+use Rattle.mr_spec.specs.Database.{table_of, replay, defines, schema_table}
 use Rattle.mr_spec.specs.Lawful.{LawfulSchema, are_lawful, IfTable, IsCheckedKey}
 use Rattle.mr_spec.specs.Weight.{total_weight}
 use Rattle.mr_spec.specs.World.{World, changes_by, seen_by, has_used, with_txn, with_commit, with_rows, committed, with_number, entered, using_table}
@@ -140,6 +141,7 @@ used-more w name t e s =
       lawful = at (λ o. are_lawful w.moment (replay w.commits) (changes_by o) ≡ true) x.lawful;
       light = at (λ o. total_weight (replay w.commits) (changes_by o) ≤ 67108864) x.light;
       used = λ c i. or-right (same_bytes (table_name c) name) _ (at (λ o. (c : Change) → IsIn c (changes_by o) → has_used (table_name c) (record w.here { txn = o }) ≡ true) x.used c i);
+      kept = at (λ o. (c : Change) → IsIn c (changes_by o) → list_any (defines (table_name c)) (drop (seen_by o (length w.commits)) w.commits) ≡ false) x.kept;
       within = at (λ o. seen_by o (length w.commits) ≤ length w.commits) x.within;
       unfixed = λ u f g. absurd (none-some (unwrap_or t.snapshot (length w.commits)) (sym g ∙ ap snapshot_in (sym f)));
     }) (λ o c i j. at (λ o2. (o : Session) (c : Change) → IsIn o w.others → IsIn c (changes_by o2) → IsApartFrom (changes_by o.txn) (replay w.commits) c) s.apart.0 o c i j)

@@ -19,7 +19,7 @@ use Rattle.mr_spec.specs.Truth.{Where}
 use Rattle.mr_spec.specs.Select.{select_tests}
 use Rattle.mr_spec.specs.Rows.{rows_after, rows_of, table_name, same_primary, clashes}
 use Rattle.mr_spec.specs.Claims.{share_claim, has_claim_in}
-use Rattle.mr_spec.specs.Database.{is_table, table_of, changed, with_changes, with_commits, replay, changes_of, on_table}
+use Rattle.mr_spec.specs.Database.{is_table, table_of, changed, with_changes, with_commits, replay, defines, changes_of, on_table}
 use Rattle.mr_spec.specs.Lawful.{are_lawful, is_lawful_in}
 use Rattle.mr_spec.specs.Weight.{total_weight}
 use Rattle.mr_spec.specs.declared.progress.Progress.{Progress}
@@ -62,7 +62,7 @@ full_of u = with_changes (replay u.commits) (changes_by u.here.txn)
 abbrev pub seen_of : World → List Table
 seen_of u = view_of u.commits u.here.txn
 
-all-commits : (n : ℕ) (cs : List Commit) → with_commits (replay (take n cs)) (drop n cs) ≡ replay cs
+pub all-commits : (n : ℕ) (cs : List Commit) → with_commits (replay (take n cs)) (drop n cs) ≡ replay cs
 all-commits n cs = sym (with-commits (take n cs) (drop n cs) []) ∙ ap replay (take-append-drop n cs)
 
 seen-agrees : (u : World) → AgreeIn (IsKept (later_commits u)) (IsFree (changes_of (later_commits u))) (seen_of u) (full_of u)
@@ -181,9 +181,9 @@ has-entered w name = record { used = λ x e. by_used w.here.txn x e; fixed = λ 
     by_fixed None x e f = absurd (none-some x e)
     by_fixed (Some t) x e f = none-some (unwrap_or t.snapshot (length w.commits)) (sym f ∙ ap snapshot_in (sym e))
 
-sound-more : (u : World) (t : Table) (made : List Change) (x : Txn) → u.here.txn ≡ Some x → IsSound u → HasEntered u t.def.name → AreSoundChanges u t made → total_weight (replay u.commits) (changes_by u.here.txn ++ made) ≤ 67108864
+sound-more : (u : World) (t : Table) (made : List Change) (x : Txn) → u.here.txn ≡ Some x → IsSound u → HasEntered u t.def.name → is_stale t.def.name u ≡ false → AreSoundChanges u t made → total_weight (replay u.commits) (changes_by u.here.txn ++ made) ≤ 67108864
     → IsSound (with_txn (Some (record x { changes = x.changes ++ made })) u)
-sound-more u t made x e s entered h light =
+sound-more u t made x e s entered kept h light =
     let y = s.sessions u.here (inl refl) in
     let at = λ (P : Option Txn → Type 0) (p : P u.here.txn). subst P e p in
     sound-here u (record u.here { txn = Some (record x { changes = x.changes ++ made }) }) s (record {
@@ -195,6 +195,7 @@ sound-more u t made x e s entered h light =
           (at (λ o. are_lawful u.moment (with_changes (replay u.commits) (changes_by o)) made ≡ true) h.full);
       light = at (λ o. total_weight (replay u.commits) (changes_by o ++ made) ≤ 67108864) light;
       used = λ c i. by_part c (in-append c x.changes made i);
+      kept = λ c i. kept_by_part c (in-append c x.changes made i);
       within = at (λ o. seen_by o (length u.commits) ≤ length u.commits) y.within;
       unfixed = λ z f g. absurd (entered.fixed x e (ap snapshot_in f ∙ g));
     }) (λ o c i j. elim (in-append c x.changes made j) [
@@ -209,6 +210,10 @@ sound-more u t made x e s entered h light =
     with_old : (c : Change) → IsIn c x.changes → has_used (table_name c) (record u.here { txn = Some x }) ≡ true
     with_old c i = subst (λ o. (c : Change) → IsIn c (changes_by o) → has_used (table_name c) (record u.here { txn = o }) ≡ true) e (s.sessions u.here (inl refl)).used c i
 
+    kept_by_part : (c : Change) → IsIn c x.changes ⊎ IsIn c made → list_any (defines (table_name c)) (drop (seen_by (Some x) (length u.commits)) u.commits) ≡ false
+    kept_by_part c (inl i) = subst (λ o. (c : Change) → IsIn c (changes_by o) → list_any (defines (table_name c)) (drop (seen_by o (length u.commits)) u.commits) ≡ false) e (s.sessions u.here (inl refl)).kept c i
+    kept_by_part c (inr i) = ap (λ n. list_any (defines n) (drop (seen_by (Some x) (length u.commits)) u.commits)) (h.names c i) ∙ subst (λ o. list_any (defines t.def.name) (drop (seen_by o (length u.commits)) u.commits) ≡ false) e kept
+
     by_part : (c : Change) → IsIn c x.changes ⊎ IsIn c made → has_used (table_name c) (record u.here { txn = Some (record x { changes = x.changes ++ made }) }) ≡ true
     by_part c (inl i) = with_old c i
     by_part c (inr i) = ap (λ n. list_any (same_bytes n) x.used) (h.names c i) ∙ subst (λ o. has_used t.def.name (record u.here { txn = o }) ≡ true) e (entered.used x e)
@@ -220,9 +225,9 @@ sound-alone u t (c ∷ cs) e s h light =
     (subst (λ o. are_lawful u.moment (with_changes (replay u.commits) (changes_by o)) (c ∷ cs) ≡ true) e h.full)
     (subst (λ o. total_weight (replay u.commits) (changes_by o ++ c ∷ cs) ≤ 67108864) e light) h.apart
 
-pub sound-kept : (u : World) (t : Table) (made : List Change) → IsSound u → HasEntered u t.def.name → AreSoundChanges u t made → total_weight (replay u.commits) (changes_by u.here.txn ++ made) ≤ 67108864 → (o : Option Txn) → u.here.txn ≡ o → IsSound (kept_in o made u)
-sound-kept u t made s entered h light None e = sound-alone u t made e s h light
-sound-kept u t made s entered h light (Some x) e = sound-more u t made x e s entered h light
+pub sound-kept : (u : World) (t : Table) (made : List Change) → IsSound u → HasEntered u t.def.name → is_stale t.def.name u ≡ false → AreSoundChanges u t made → total_weight (replay u.commits) (changes_by u.here.txn ++ made) ≤ 67108864 → (o : Option Txn) → u.here.txn ≡ o → IsSound (kept_in o made u)
+sound-kept u t made s entered kept h light None e = sound-alone u t made e s h light
+sound-kept u t made s entered kept h light (Some x) e = sound-more u t made x e s entered kept h light
 
 -- ---- the statements
 
@@ -254,7 +259,7 @@ sound-after_rows u t (Err e) s entered f kept h = by_code (e.code == 1213)
 sound-after_rows u t (Ok g) s entered f kept h =
     let made : h.goes.made ≡ g.changes = sym h.goes.changes in
     let c : AreSoundChanges u t g.changes = subst (AreSoundChanges u t) made (sound-changes u t h.goes.made s f kept h.goes.lawful h.goes.clear) in
-    kept-number (sound-kept u t g.changes s entered c h.light u.here.txn refl)
+    kept-number (sound-kept u t g.changes s entered kept c h.light u.here.txn refl)
   where
     kept-number : IsSound (kept_in u.here.txn g.changes u) → IsSound (kept_in u.here.txn g.changes (with_number t.def.name g.next u))
     kept-number k = by_txn u.here.txn k

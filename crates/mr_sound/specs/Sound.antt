@@ -1,5 +1,6 @@
 -- Sound worlds: those whose commits are lawful, and stay so whatever a statement commits.
-use Rattle.std.specs.Prelude.{◌≡◌, ◌≤◌, ◌<◌, ◌⊎◌, ℕ, true, false, List, [], ◌∷◌, length, take, Some, None, Result, Ok, Err, ⊤}
+use Rattle.std.specs.Prelude.{◌≡◌, ◌≤◌, ◌<◌, ◌⊎◌, ℕ, true, false, List, [], ◌∷◌, length, take, drop, Some, None, Result, Ok, Err, ⊤}
+use Rattle.std.specs.List.{list_any}
 use Rattle.mr_spec.specs.declared.world.Session.{Session}
 use Rattle.mr_spec.specs.declared.world.Table.{Table}
 use Rattle.mr_types.specs.declared.definition.IndexDef.{IndexDef}
@@ -10,16 +11,15 @@ use Rattle.mr_types.specs.declared.row.Change.TheVariants.{Insert, Update, Delet
 use Rattle.mr_types.specs.declared.row.Commit.{Commit}
 use Rattle.mr_spec.specs.declared.world.Txn.{Txn}
 use Rattle.mr_types.specs.declared.statement.Statement.{Statement}
-use Rattle.mr_types.specs.declared.statement.Statement.TheVariants as statement
 use Rattle.mr_types.specs.Grammatical.{is_statement}
 use Rattle.mr_spec.specs.Rows.{same_primary, rows_of, table_name}
-use Rattle.mr_spec.specs.Database.{table_of, replay}
+use Rattle.mr_spec.specs.Database.{table_of, replay, defines}
 use Rattle.mr_spec.specs.Lawful.{IsLawful, IsCheckedKey, IfTable, are_lawful}
 use Rattle.mr_spec.specs.Replay.{last_moment, numbers_after}
 use Rattle.mr_spec.specs.Weight.{total_weight}
 use Rattle.mr_spec.specs.World.{World, changes_by, seen_by, has_used}
 
--- it stands in the list
+-- x stands in the list
 abbrev pub IsIn : {A : Type 0} → A → List A → Type 0
 IsIn x [] = ⊥
 IsIn x (y ∷ ys) = (y ≡ x) ⊎ IsIn x ys
@@ -33,13 +33,14 @@ abbrev pub IsApartFrom : List Change → List Table → Change → Type 0
 IsApartFrom ds tables c = (t : Table) (d : Change) → table_of (table_name c) tables ≡ Some t → IsIn d ds → table_name d ≡ table_name c → AreApart t.def c d
 
 -- What a session holds could be committed now: its changes are lawful on the tables that it began from, and also on those of all
--- commits; they are not too heavy, and it has used their tables, which keeps others from changing the definitions. It sees no
--- more commits than there are, and has no changes before its snapshot is fixed.
+-- commits; they are not too heavy; it has used their tables, which keeps others from changing the definitions, and no commit that
+-- it doesn't see has done so. It sees no more commits than there are, and has no changes before its snapshot is fixed.
 pub record IsSoundSession (commits : List Commit) (moment : ℕ) (s : Session) : Type 0 where
   pub seen : are_lawful moment (replay (take (seen_by s.txn (length commits)) commits)) (changes_by s.txn) ≡ true
   pub lawful : are_lawful moment (replay commits) (changes_by s.txn) ≡ true
   pub light : total_weight (replay commits) (changes_by s.txn) ≤ 67108864
   pub used : (c : Change) → IsIn c (changes_by s.txn) → has_used (table_name c) s ≡ true
+  pub kept : (c : Change) → IsIn c (changes_by s.txn) → list_any (defines (table_name c)) (drop (seen_by s.txn (length commits)) commits) ≡ false
   pub within : seen_by s.txn (length commits) ≤ length commits
   pub unfixed : (t : Txn) → s.txn ≡ Some t → t.snapshot ≡ None → t.changes ≡ []
 
@@ -78,9 +79,3 @@ IsBelow n (Delete table old) = ⊤
 pub record AreNumbered (w : World) : Type 0 where
   pub commits : (name : List ℕ) → numbers_after (λ name. 1) w.commits name ≤ w.numbers name
   pub held : (s : Session) (c : Change) → IsIn s (w.here ∷ w.others) → IsIn c (changes_by s.txn) → IsBelow (w.numbers (table_name c)) c
-
--- the rows to which the statement may give hidden numbers
-abbrev pub rows_made : Statement → ℕ
-rows_made (statement.Insert s) = length s.rows
-rows_made (statement.Replace s) = length s.rows
-rows_made _ = 0

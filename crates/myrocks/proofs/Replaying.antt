@@ -8,7 +8,7 @@ use Rattle.mr_base.proofs.Moments.{started, weaker, goes_on, at_end, same_file, 
 use Rattle.mr_gate.specs.Log.{IsLog, records_from, end_from, is_damaged_from, span}
 use Rattle.mr_gate.specs.Gate.{Gate, KeepsLog, Reaches, Stands as StandsOn}
 use Rattle.mr_binlog.specs.CommitForm.{commit_bytes, reads_commit}
-use Rattle.mr_binlog.specs.Commits.{IsNextCommit, IsNoCommit, IsRead}
+use Rattle.mr_binlog.specs.Commits.{IsNextCommit, IsRead}
 use Rattle.mr_gate.proofs.Laws.{sound_log, opened_log, reaches_behind}
 use Rattle.mr_gate.proofs.Walk.{span-append}
 use mathlib.Core.Bool.{true≢false}
@@ -26,7 +26,7 @@ use Rattle.myrocks.specs.Folder.{Holds}
 use Rattle.myrocks.specs.Settled.{IsSettled}
 use Rattle.myrocks.specs.Causes.{GoesOn}
 use Rattle.myrocks.specs.Serving.{IsReady}
-use Rattle.myrocks.specs.Opening.{is_lawful_at, if_lawful, judged, offence, IsDamagedAt, IsKept, IsSilent, KeepsRecords, IsOpeningCause, Replaying}
+use Rattle.myrocks.specs.Opening.{HasNoCommit, is_lawful_at, if_lawful, judged, offence, IsDamagedAt, IsKept, IsSilent, KeepsRecords, IsOpeningCause, Replaying}
 use Rattle.myrocks.proofs.Offences.{judged_some, one_more, offence_at}
 
 -- ---- the commits, one after the other
@@ -93,11 +93,11 @@ given_none : (t : Bool) (left : ℕ) → cond t (given (Err left)) None ≡ None
 given_none true left = refl
 given_none false left = refl
 
-pub replaying_offence : (s : State) (at : ℕ) (tables : List Table) (moment : ℕ) → Replaying s at tables moment → (Tells s → is_damaged_from 0 (file_of s 1).bytes ≡ false) → (Tells s → IsNoCommit at (file_of s 1).bytes) → Tells s → IsDamagedAt (file_of s 1).bytes at
+pub replaying_offence : (s : State) (at : ℕ) (tables : List Table) (moment : ℕ) → Replaying s at tables moment → (Tells s → is_damaged_from 0 (file_of s 1).bytes ≡ false) → (Tells s → HasNoCommit at (file_of s 1).bytes) → Tells s → IsDamagedAt (file_of s 1).bytes at
 replaying_offence s at tables moment r sound none tells =
-    let n = none tells in
-    let is_none : read_commit n.0 ≡ None = ap (λ x. cond (list_all is_byte n.0) (given x) None) n.4 ∙ given_none (list_all is_byte n.0) n.2 in
-    no_lawful s at n.1 tables moment n.0 r tells sound n.3 (ap (if_lawful (replay r.commits) moment) is_none)
+    let n = (none tells).1 in
+    let is_none : read_commit n.0 ≡ None = ap (λ x. cond (list_all is_byte n.0) (given x) None) n.3.1 ∙ given_none (list_all is_byte n.0) n.3.0 in
+    no_lawful s at n.1 tables moment n.0 r tells sound n.2 (ap (if_lawful (replay r.commits) moment) is_none)
 
 -- ---- the file before the opening and after it
 
@@ -189,8 +189,8 @@ reaches_now old mid log at tables moment ready r tells same =
 pub next_before : (old mid : State) (at : ℕ) (found : Option (Commit × ℕ)) → Same old mid → IsNextCommit at (file_of mid 1).bytes found → IsNextCommit at (file_of old 1).bytes found
 next_before old mid at found same next = subst (λ f. IsNextCommit at f.bytes found) (same_file old mid 1 same) next
 
-none_before : (old mid : State) (at : ℕ) → Same old mid → IsNoCommit at (file_of mid 1).bytes → IsNoCommit at (file_of old 1).bytes
-none_before old mid at same none = subst (λ f. IsNoCommit at f.bytes) (same_file old mid 1 same) none
+none_before : (old mid : State) (at : ℕ) → Same old mid → HasNoCommit at (file_of mid 1).bytes → HasNoCommit at (file_of old 1).bytes
+none_before old mid at same none = subst (λ f. HasNoCommit at f.bytes) (same_file old mid 1 same) none
 
 pub ready_sound : (s : State) (log : Gate) → IsReady log s → Tells s → is_damaged_from 0 (file_of s 1).bytes ≡ false
 ready_sound s log ready tells = subst (λ f. is_damaged_from f (file_of s 1).bytes ≡ false) ready.from (ready.stands tells).sound
@@ -216,7 +216,7 @@ place_of (Damaged file at) = at
 -- why a read fails
 pub read_cause : (old mid new : State) (at : ℕ) (tables : List Table) (moment : ℕ) (e : Stop) → GoesOn old mid → Replaying old at tables moment → (Tells old → is_damaged_from 0 (file_of old 1).bytes ≡ false) → (Tells old → Same old mid)
     → (e ≡ Disk) ⊎ ((e ≡ Memory) ⊎ (e ≡ Damaged 1 at)) → (e ≡ Disk → HasRisen mid.faults new.faults)
-    → (Tells old → (e ≡ Disk) ⊎ ((e ≡ Memory) ⊎ ((e ≡ Damaged 1 at) × IsNoCommit at (file_of mid 1).bytes))) → IsOpeningCause old new e
+    → (Tells old → (e ≡ Disk) ⊎ ((e ≡ Memory) ⊎ ((e ≡ Damaged 1 at) × HasNoCommit at (file_of mid 1).bytes))) → IsOpeningCause old new e
 read_cause old mid new at tables moment Memory goes r sound same answers failed told = tt
 read_cause old mid new at tables moment Disk goes r sound same answers failed told = omega (arith, goes.faults, failed refl)
 read_cause old mid new at tables moment (Full what a limit) goes r sound same answers failed told = elim answers [ inl x ↦ absurd (omega (arith, ap kind_of x)) | inr y ↦ elim y [ inl x ↦ absurd (omega (arith, ap kind_of x)) | inr x ↦ absurd (omega (arith, ap kind_of x)) ] ]

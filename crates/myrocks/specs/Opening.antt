@@ -6,6 +6,7 @@ use Rattle.mr_base.specs.Calls.{During}
 use Rattle.mr_base.specs.declared.stop.Stop.{Stop}
 use Rattle.mr_base.specs.declared.stop.Stop.TheVariants.{Memory, Disk, Full, Damaged}
 use Rattle.mr_gate.specs.Log.{records_from, end_from, is_damaged_from, span, IsLog}
+use Rattle.mr_binlog.specs.Commits.{IsNoCommit}
 use Rattle.mr_lists.specs.StandsFor.{StandsFor}
 use Rattle.mr_first.specs.Database.{replay, applied}
 use Rattle.mr_first.specs.Lawful.{is_lawful_change, IsLawful}
@@ -44,6 +45,10 @@ IsOpeningCause old new Memory = Unit {0}
 IsOpeningCause old new Disk = HasRisen old.faults new.faults
 IsOpeningCause old new (Full what at limit) = ⊥
 IsOpeningCause old new (Damaged file at) = (file ≡ 1) × (Tells old → IsDamagedAt (file_of old 1).bytes at)
+
+-- the body of the record at a place is no commit
+abbrev pub HasNoCommit : ℕ → List ℕ → Type 0
+HasNoCommit at file = (stop : Stop) × IsNoCommit at file stop
 
 -- The records before this place are those of commits that are lawful, and the tables and the moment are those after them.
 pub record Replaying (s : State) (at : ℕ) (tables : List Table) (moment : ℕ) : Type 0 where

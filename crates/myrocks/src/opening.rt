@@ -1,15 +1,16 @@
 //! From a folder to a server: the binary log is repaired and read, each commit is judged, and the tables are built.
 
-ghost use Rattle.std.specs.Prelude.{◌≡◌, ℕ, List, [], true, false, OnOk, IfOk, IfErr};
-ghost use Rattle.mr_base.specs.Disk.{Tells, IsAtRest, file_of, seen};
-ghost use Rattle.mr_base.specs.Calls.{During, Same};
-ghost use Rattle.mr_gate.specs.Gate.{IsDamage};
+ghost use Rattle.std.specs.Prelude.{◌≡◌, ◌⊎◌, ℕ, ◌+◌, ◌^◌, ◌≤◌, List, [], IsTrue, true, false, OnOk, IfOk, IfErr, IfSome, Err};
+ghost use Rattle.mr_base.specs.Disk.{Tells, IsAtRest, HasRisen, file_of, seen};
+ghost use Rattle.mr_base.specs.Calls.{During, Same, Counts};
+ghost use Rattle.mr_gate.specs.Gate.{IsDamage, Reaches, Stands as LogStands};
+ghost use Rattle.mr_binlog.specs.Commits.{IsNextCommit, IsRead};
 ghost use Rattle.mr_lists.specs.StandsFor.{StandsFor};
 ghost use Rattle.mr_first.specs.World.{reopened};
 ghost use Rattle.mr_types.specs.declared.row.Commit.{Commit};
 ghost use Rattle.mr_spec.specs.declared.world.Table.{Table};
 ghost use Rattle.myrocks.specs.Folder.{Holds, IsValid};
-ghost use Rattle.myrocks.specs.Opening.{is_lawful_at, Replays, IsKept, IsSilent, KeepsRecords, IsOpeningCause};
+ghost use Rattle.myrocks.specs.Opening.{HasNoCommit, is_lawful_at, Replays, IsKept, IsSilent, KeepsRecords, IsOpeningCause};
 ghost use Rattle.myrocks.specs.Settled.{IsSettled};
 ghost use Rattle.myrocks.specs.Serving.{IsReady, IsServing, Stands};
 ghost use Rattle.myrocks.specs.Causes.{GoesOn};
@@ -38,6 +39,34 @@ struct Replayed {
     moment: u64,
 }
 
+/// The commit at a place, and the next place. A body that is no commit is damage at its record's place.
+fn read<H: Host>(
+    alloc: Global,
+    host: &mut H,
+    log: &Binlog,
+    at: u64,
+) -> Result<Option<(Commit, u64)>, Stop>
+    requires is_open { IsTrue log.now.gate.is_open }
+    requires stands { Tells (H.disk host.old) → LogStands log.now.gate (file_of (H.disk host.old) 1).bytes }
+    ensures counts { Counts 2 (5 + 2 ^ 29) 0 (H.disk host.old) (H.disk host.new) }
+    ensures failed { result ≡ Err Stop.Disk → HasRisen (H.disk host.old).faults (H.disk host.new).faults }
+    ensures same { Tells (H.disk host.old) → Same (H.disk host.old) (H.disk host.new) }
+    ensures answers { IfErr result (λ e. (e ≡ Stop.Disk) ⊎ ((e ≡ Stop.Memory) ⊎ (e ≡ Stop.Damaged 1 at))) }
+    ensures ahead { IfOk result (λ o. IfSome o (λ r. IsRead at r.0 r.1 × (r.1 ≤ log.now.gate.end))) }
+    ensures read { Tells (H.disk host.old) → Reaches log.now.gate.end at (file_of (H.disk host.old) 1).bytes
+        → IfOk result (IsNextCommit at (file_of (H.disk host.old) 1).bytes) }
+    ensures err { Tells (H.disk host.old) → Reaches log.now.gate.end at (file_of (H.disk host.old) 1).bytes
+        → IfErr result (λ e. (e ≡ Stop.Disk) ⊎ ((e ≡ Stop.Memory) ⊎ ((e ≡ Stop.Damaged 1 at) × HasNoCommit at (file_of (H.disk host.old) 1).bytes))) }
+{
+    match log.read(alloc, host, at) {
+        Err(Stop::Damaged { .. }) => Err(Stop::Damaged {
+            file: BINARY_LOG,
+            at,
+        }),
+        answer => answer,
+    }
+}
+
 /// Reads and judges the commits of a log that was opened.
 fn replay<H: Host>(alloc: Global, host: &mut H, log: &Binlog) -> Result<Replayed, Stop>
     requires ready { IsReady log.now.gate (H.disk host.old) }
@@ -49,7 +78,7 @@ fn replay<H: Host>(alloc: Global, host: &mut H, log: &Binlog) -> Result<Replayed
     let mut tables = Tables::new(alloc);
     let mut moment = 0;
     let mut at = 0;
-    'records: while let Some((commit, next)) = log.read(alloc, host, at)? {
+    'records: while let Some((commit, next)) = read(alloc, host, log, at)? {
         if !is_next(&tables, moment, &commit) {
             return Err(Stop::Damaged {
                 file: BINARY_LOG,

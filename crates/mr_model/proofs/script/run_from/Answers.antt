@@ -1,5 +1,5 @@
 use Rattle.std.proofs.Common.{refl, false}
-use Rattle.mr_model.specs.Worlds.{world_in}
+use Rattle.mr_model_engine.specs.Worlds.{world_in}
 use Rattle.mr_model.proofs.RunSteps.{at_start, goes_on_at, at_end, spent_at_end, partly_at, on_err}
 use Rattle.mr_model.proofs.script.run_from.Goals as goal
 

@@ -1,7 +1,7 @@
 use Rattle.std.proofs.Common.{drop}
-use Rattle.mr_model.specs.Few.{FewColumns}
+use Rattle.mr_model_engine.specs.Few.{FewColumns}
 use Rattle.mr_model.specs.Running.{GoesOn}
-use Rattle.mr_model.specs.Worlds.{world_in}
+use Rattle.mr_model_engine.specs.Worlds.{world_in}
 use Rattle.mr_model.proofs.script.run_from.Given as goal
 
 abbrev pub invariant-loop-statement : goal.invariant-loop-statement

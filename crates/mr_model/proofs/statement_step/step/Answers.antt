@@ -1,7 +1,7 @@
 use Rattle.std.proofs.Common.{ℕ}
 use Rattle.mr_spec.specs.World.{World}
-use Rattle.mr_model.specs.Worlds.{world_in}
-use Rattle.mr_model.specs.declared.engine.Engine.{Engine}
+use Rattle.mr_model_engine.specs.Worlds.{world_in}
+use Rattle.mr_model_engine.specs.declared.engine.Engine.{Engine}
 use Rattle.mr_model.proofs.FewSteps.{few_at_begin, few_behind}
 use Rattle.mr_model.proofs.statement_step.step.Goals as goal
 

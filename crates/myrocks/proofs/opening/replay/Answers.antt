@@ -23,8 +23,8 @@ returns-in_err-commit-clause-cause g c =
     let old = g.H.Disk.disk c.args.host.now in
     let mid = g.H.Disk.disk c.records.host in
     let log = c.args.log.now.gate in
-    err_is c.from_residual.result c.in_err-commit.field-0.0 (IsOpeningCause old (g.H.Disk.disk c.read.new.disk)) c.from_residual.ensures.1
-    (read_cause old mid (g.H.Disk.disk c.read.new.disk) c.records.at c.records.tables c.records.moment c.in_err-commit.field-0.0 inv.goes_on inv.replaying (ready_sound old log c.requires.ready) inv.same e.answers (λ q. e.failed (ap Err q))
+    err_is c.from_residual.result c.in_err-commit.field-0.0 (IsOpeningCause old (g.H.Disk.disk c.read.new.host)) c.from_residual.ensures.1
+    (read_cause old mid (g.H.Disk.disk c.read.new.host) c.records.at c.records.tables c.records.moment c.in_err-commit.field-0.0 inv.goes_on inv.replaying (ready_sound old log c.requires.ready) inv.same e.answers (λ q. e.failed (ap Err q))
     (λ tells. e.err (goes_tells _ _ inv.goes_on tells) (reaches_now old mid log c.records.at c.records.tables c.records.moment c.requires.ready inv.replaying tells (inv.same tells))))
 
 pub returns-then-not-is_next-clause-cause : goal.returns-then-not-is_next-clause-cause

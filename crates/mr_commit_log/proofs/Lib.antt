@@ -1,0 +1,10 @@
+pub mod LogCommits
+pub mod Lawful
+pub mod Rooms
+pub mod Early
+pub mod GoingOn
+pub mod Emitted
+pub mod Appending
+pub mod Each
+pub mod Offences
+pub mod Replaying

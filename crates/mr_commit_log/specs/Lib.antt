@@ -1,0 +1,7 @@
+pub mod LogCommits
+pub mod Folder
+pub mod Emitting
+pub mod Room
+pub mod Appending
+pub mod Causes
+pub mod Opening

@@ -1,0 +1,4 @@
+pub mod Forms
+pub mod Claims
+pub mod Shares
+pub mod Last

@@ -1,6 +1,0 @@
-use Rattle.std.proofs.Common.{◌≡◌, drop}
-use Rattle.mr_model.specs.Worlds.{building_in}
-use Rattle.mr_model.proofs.views.building_of.Given as goal
-
-abbrev pub invariant-loop-entry : goal.invariant-loop-entry
-invariant-loop-entry l = building_in (drop l.entry-index l.engine.building) l.table ≡ building_in l.engine.building l.table

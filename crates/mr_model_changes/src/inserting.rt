@@ -1,0 +1,134 @@
+//! The tuples of INSERT and REPLACE.
+
+ghost use Rattle.std.specs.Prelude.{◌≡◌, ◌+◌, ◌++◌, ◌∷◌, [], map, filter, length, IfOk};
+ghost use Rattle.mr_types.specs.declared.row.Change.TheVariants as kinds;
+ghost use Rattle.mr_model_changes.specs.Telling.{scene_in, Tells};
+ghost use Rattle.mr_model_changes.specs.Writing.{exchanged as row_exchanged};
+ghost use Rattle.mr_spec.specs.Progress.{seen_rows as rows_seen};
+ghost use Rattle.mr_spec.specs.Rows.{clashes as clash};
+ghost use Rattle.mr_spec.specs.Changes.{inserted as row_inserted, replaced as row_replaced};
+
+use crate::new_rows::new_row;
+use crate::scene::{Failed, Scene, told};
+use crate::steps::{advanced, alone, claimed, drawn, is_new, seen_rows};
+use crate::tuples::fields_of;
+use mr_base::Memory;
+use mr_model_rows::clashes;
+use mr_spec::{Progress, RowList};
+use mr_types::{Change, ChangeList, ItemValue, Row, TableDef};
+use std::alloc::Global;
+
+/// The insert of a row.
+fn insert_of(alloc: Global, def: &TableDef, new: &Row) -> Result<Change, Memory>
+    ensures { IfOk result (λ change. change ≡ kinds.Insert def.now.name new.now) }
+{
+    Ok(Change::Insert {
+        table: def.name.copy(alloc)?,
+        new: new.copy(alloc)?,
+    })
+}
+
+/// A tuple of INSERT: its assignments, its number, then 1205, 1213, and 1062 where a visible row
+/// has the values of one of its keys.
+pub(crate) fn inserted(
+    alloc: Global,
+    scene: &Scene,
+    at: &[usize],
+    so_far: Progress,
+    tuple: &[ItemValue],
+) -> Result<Progress, Failed>
+    ensures { Tells result (row_inserted (scene_in scene.now) at.now so_far tuple.now) }
+{
+    let fields = told(so_far.next, fields_of(alloc, scene.def, at, tuple))?;
+    let new = new_row(scene, so_far.next, fields)?;
+    let made = alone(alloc, insert_of(alloc, scene.def, &new)?)?;
+    let drawn = drawn(scene.def, so_far)?;
+    told(drawn.next, claimed(scene, made.as_slice()))?;
+    let seen = seen_rows(alloc, scene, &drawn)?;
+    told(drawn.next, is_new(scene.def, &new, seen.as_slice()))?;
+    Ok(advanced(alloc, scene, made, 1, drawn)?)
+}
+
+/// The rows that have the values of one of the row's keys.
+fn clashing(alloc: Global, def: &TableDef, new: &Row, rows: &[Row]) -> Result<RowList, Memory>
+    ensures { IfOk result (λ gone. gone ≡ filter (clash def.now new.now) rows.now) }
+{
+    let mut gone = RowList::new(alloc);
+    for row in rows {
+        if clashes(def, new, row) {
+            gone.push(row.copy(alloc)?)?;
+        }
+    }
+    Ok(gone)
+}
+
+/// The deletes of these rows.
+fn deletes_of(alloc: Global, def: &TableDef, gone: &[Row]) -> Result<ChangeList, Memory>
+    ensures { IfOk result (λ changes. changes ≡ map (kinds.Delete def.now.name) gone.now) }
+{
+    let mut changes = ChangeList::new(alloc);
+    for row in gone {
+        changes.push(Change::Delete {
+            table: def.name.copy(alloc)?,
+            old: row.copy(alloc)?,
+        })?;
+    }
+    Ok(changes)
+}
+
+/// The deletes of these rows, and the insert of another.
+fn replacement(alloc: Global, def: &TableDef, gone: &[Row], new: &Row) -> Result<ChangeList, Memory>
+    ensures changes { IfOk result (λ made. made ≡ map (kinds.Delete def.now.name) gone.now ++ kinds.Insert def.now.name new.now ∷ []) }
+    ensures count { IfOk result (λ made. length made ≡ length gone.now + 1) }
+{
+    let mut made = deletes_of(alloc, def, gone)?;
+    made.push(insert_of(alloc, def, new)?)?;
+    Ok(made)
+}
+
+/// The visible rows that have the values of one of the row's keys.
+fn rows_in_the_way(
+    alloc: Global,
+    scene: &Scene,
+    new: &Row,
+    so_far: &Progress,
+) -> Result<RowList, Memory>
+    ensures { IfOk result (λ gone. gone ≡ filter (clash scene.now.def.now new.now) (rows_seen (scene_in scene.now) so_far.now)) }
+{
+    let seen = seen_rows(alloc, scene, so_far)?;
+    clashing(alloc, scene.def, new, seen.as_slice())
+}
+
+/// The row in the place of these, which are gone; its number is drawn, then 1205 and 1213.
+fn exchanged(
+    alloc: Global,
+    scene: &Scene,
+    new: &Row,
+    gone: &[Row],
+    so_far: Progress,
+) -> Result<Progress, Failed>
+    ensures { Tells result (row_exchanged (scene_in scene.now) new.now gone.now so_far) }
+{
+    let made = replacement(alloc, scene.def, gone, new)?;
+    let drawn = drawn(scene.def, so_far)?;
+    told(drawn.next, claimed(scene, made.as_slice()))?;
+    let count = made.len() as u64;
+    Ok(advanced(alloc, scene, made, count, drawn)?)
+}
+
+/// A tuple of REPLACE: the visible rows that have the values of one of its keys are deleted, and
+/// the new one is inserted.
+pub(crate) fn replaced(
+    alloc: Global,
+    scene: &Scene,
+    at: &[usize],
+    so_far: Progress,
+    tuple: &[ItemValue],
+) -> Result<Progress, Failed>
+    ensures { Tells result (row_replaced (scene_in scene.now) at.now so_far tuple.now) }
+{
+    let fields = told(so_far.next, fields_of(alloc, scene.def, at, tuple))?;
+    let new = new_row(scene, so_far.next, fields)?;
+    let gone = rows_in_the_way(alloc, scene, &new, &so_far)?;
+    exchanged(alloc, scene, &new, gone.as_slice(), so_far)
+}

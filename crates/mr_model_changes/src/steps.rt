@@ -1,0 +1,122 @@
+//! What the rows of all writing statements go through.
+
+ghost use Rattle.std.specs.Prelude.{◌≡◌, ◌∷◌, [], fold, IfOk};
+ghost use Rattle.std.specs.List.{list_any};
+ghost use Rattle.mr_types.specs.Refusals.{refuse_where};
+ghost use Rattle.mr_types.specs.Values.{Answers};
+ghost use Rattle.mr_model_changes.specs.Telling.{scene_in};
+ghost use Rattle.mr_spec.specs.Claims.{has_claim_in as claim_in, claimed as is_claimed};
+ghost use Rattle.mr_spec.specs.NewRows.{drawn as number_drawn};
+ghost use Rattle.mr_spec.specs.Progress.{seen_rows as rows_seen, advanced as gone_on};
+ghost use Rattle.mr_spec.specs.Rows.{clashes as clash, rows_after as rows_behind};
+
+use crate::new_rows::next_behind;
+use crate::scene::Scene;
+use mr_base::Memory;
+use mr_model_rows::{clashes, has_claim_in, rows_after, visible};
+use mr_spec::{Progress, RowList};
+use mr_types::{Change, ChangeList, Refused, Row, TableDef};
+use std::alloc::Global;
+
+/// The rows that the statement sees, its own changes among them.
+pub(crate) fn seen_rows(alloc: Global, scene: &Scene, so_far: &Progress) -> Result<RowList, Memory>
+    ensures { IfOk result (λ rows. rows ≡ rows_seen (scene_in scene.now) so_far.now) }
+{
+    visible(alloc, scene.def, scene.moment, so_far.rows.as_slice())
+}
+
+/// The number drawn, where the table has hidden ones.
+pub(crate) fn drawn(def: &TableDef, so_far: Progress) -> Result<Progress, Memory>
+    ensures { IfOk result (λ g. g ≡ number_drawn def.now so_far) }
+{
+    let mut so_far = so_far;
+    so_far.next = next_behind(def, so_far.next)?;
+    Ok(so_far)
+}
+
+/// Whether one of these changes has a claim in common with others.
+fn is_claimed_by(def: &TableDef, others: &[Change], made: &[Change]) -> bool
+    ensures { result ≡ list_any (claim_in def.now others.now) made.now }
+{
+    made.iter().any(|change| has_claim_in(def, others, change))
+}
+
+/// 1205 where another session holds a claim of these changes, 1213 where a later commit has one.
+pub(crate) fn claimed(scene: &Scene, made: &[Change]) -> Result<(), Refused>
+    ensures { Answers result (is_claimed (scene_in scene.now).held (scene_in scene.now).changed made.now) }
+{
+    if is_claimed_by(scene.def, scene.held, made) {
+        return Err(Refused::Sql(1205));
+    }
+    if is_claimed_by(scene.def, scene.changed, made) {
+        return Err(Refused::Sql(1213));
+    }
+    Ok(())
+}
+
+/// Whether one of these rows has the values of one of the row's keys.
+fn is_taken(def: &TableDef, new: &Row, rows: &[Row]) -> bool
+    ensures { result ≡ list_any (clash def.now new.now) rows.now }
+{
+    rows.iter().any(|row| clashes(def, new, row))
+}
+
+/// 1062 where one of these rows has the values of one of the row's keys.
+pub(crate) fn is_new(def: &TableDef, new: &Row, rows: &[Row]) -> Result<(), Refused>
+    ensures { Answers result (refuse_where 1062 (list_any (clash def.now new.now) rows.now)) }
+{
+    if is_taken(def, new, rows) {
+        return Err(Refused::Sql(1062));
+    }
+    Ok(())
+}
+
+/// One change alone.
+pub(crate) fn alone(alloc: Global, change: Change) -> Result<ChangeList, Memory>
+    ensures { IfOk result (λ changes. changes ≡ change ∷ []) }
+{
+    let mut changes = ChangeList::new(alloc);
+    changes.push(change)?;
+    Ok(changes)
+}
+
+/// The rows after these changes.
+fn rows_after_all(
+    alloc: Global,
+    def: &TableDef,
+    rows: RowList,
+    made: &[Change],
+) -> Result<RowList, Memory>
+    ensures { IfOk result (λ all. all ≡ fold (rows_behind def.now) rows made.now) }
+{
+    let mut all = rows;
+    for change in made {
+        all = rows_after(alloc, def, all, change)?;
+    }
+    Ok(all)
+}
+
+/// These changes done, which count for so many rows. A count above 64 bits can't be kept: want of
+/// memory stands for that.
+pub(crate) fn advanced(
+    alloc: Global,
+    scene: &Scene,
+    made: ChangeList,
+    count: u64,
+    so_far: Progress,
+) -> Result<Progress, Memory>
+    ensures { IfOk result (λ g. g ≡ gone_on (scene_in scene.now) made count so_far) }
+{
+    let rows = rows_after_all(alloc, scene.def, so_far.rows, made.as_slice())?;
+    let Some(count) = so_far.count.checked_add(count) else {
+        return Err(Memory);
+    };
+    let mut changes = so_far.changes;
+    changes.append(made)?;
+    Ok(Progress {
+        rows,
+        changes,
+        next: so_far.next,
+        count,
+    })
+}

@@ -1,0 +1,4 @@
+pub mod Answering
+pub mod Current
+pub mod FewChecked
+pub mod FewTables

@@ -1,0 +1,21 @@
+-- How a program's engine stands for a world of the definitions.
+use Rattle.std.specs.Prelude.{ℕ, List, [], ◌∷◌, Option, None}
+use Rattle.mr_types.specs.declared.definition.IndexDef.{IndexDef}
+use Rattle.mr_spec.specs.World.{World, at_name}
+use Rattle.mr_model_engine.specs.declared.engine.Building.{Building}
+use Rattle.mr_model_engine.specs.declared.engine.NextNumber.{NextNumber}
+use Rattle.mr_model_engine.specs.declared.engine.Engine.{Engine}
+
+-- the first entry of a table's name tells; a table without one has no building index
+abbrev pub building_in : List Building → List ℕ → Option IndexDef
+building_in [] = λ name. None
+building_in (e ∷ es) = at_name e.table e.key (building_in es)
+
+-- and a table without an entry begins at 1
+abbrev pub numbers_in : List NextNumber → List ℕ → ℕ
+numbers_in [] = λ name. 1
+numbers_in (e ∷ es) = at_name e.table e.number (numbers_in es)
+
+-- the lists of entries as functions, the rest as it is
+abbrev pub world_in : Engine → World
+world_in e = record { commits = e.commits; here = e.here; others = e.others; building = building_in e.building; numbers = numbers_in e.numbers; moment = e.moment }

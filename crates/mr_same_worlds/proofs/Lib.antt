@@ -1,0 +1,5 @@
+pub mod Dressed
+pub mod Absent
+pub mod Tidy
+pub mod Openings
+pub mod Again

@@ -1,0 +1,2 @@
+//! That what is spelled is read: each statement has a spelling, and the grammar reads it.
+#![tactic(auto)]

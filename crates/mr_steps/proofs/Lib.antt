@@ -1,0 +1,4 @@
+pub mod Added
+pub mod LastDefined
+pub mod SinceOpening
+pub mod Weighing

@@ -1,0 +1,4 @@
+pub mod Adding
+pub mod Defining
+pub mod Since
+pub mod Views
