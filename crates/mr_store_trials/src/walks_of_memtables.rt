@@ -5,9 +5,9 @@ ghost use Rattle.std.proofs.Common.{sym};
 ghost use Rattle.mr_base.specs.Disk.{at_rest};
 ghost use Rattle.mr_iter.specs.Merging.{IsOneDirection};
 
-use super::*;
 use mr_base::{Direction, Disk, DiskFault, Memory, Stop};
 use mr_iter::{AtSnapshot, Cursor, Listed, Merge};
+use mr_memtable::Memtable;
 use std::alloc::Global;
 use std::test::Fail;
 

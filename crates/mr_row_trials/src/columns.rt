@@ -1,7 +1,9 @@
 //! Worked rows of values.
 
-use super::*;
 use mr_base::Blob;
+use mr_types::{
+    Collation, ColumnType, FieldRef, Kind, Refused, Value, assign, compare, is_expired,
+};
 use std::cmp::Ordering;
 use std::test::Fail;
 

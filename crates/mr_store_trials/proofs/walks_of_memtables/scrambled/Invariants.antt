@@ -1,4 +1,4 @@
-use Rattle.mr_memtable.proofs.tests.scrambled.Given as goal
+use Rattle.mr_store_trials.proofs.walks_of_memtables.scrambled.Given as goal
 
 abbrev pub invariant-adding : goal.invariant-adding
 invariant-adding l = Unit {0}

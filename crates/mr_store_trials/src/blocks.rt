@@ -2,9 +2,9 @@
 ghost use Rattle.std.specs.Prelude.{◌≡◌, Ok, IfOk};
 ghost use Rattle.mr_block.specs.Block.{block_in};
 
-use super::*;
 use bytes::Bytes;
 use mr_base::{Blob, Direction, Malformed, Memory};
+use mr_block::{BlockBuilder, BlockRef, Found};
 use std::alloc::Global;
 use std::test::Fail;
 

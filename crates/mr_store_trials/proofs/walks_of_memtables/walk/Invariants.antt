@@ -1,4 +1,4 @@
-use Rattle.mr_memtable.proofs.tests.walk.Given as goal
+use Rattle.mr_store_trials.proofs.walks_of_memtables.walk.Given as goal
 
 abbrev pub invariant-walking : goal.invariant-walking
 invariant-walking g l = Unit {0}

@@ -1,4 +1,4 @@
-use Rattle.mr_memtable.proofs.tests.count_in_order.Given as goal
+use Rattle.mr_store_trials.proofs.walks_of_memtables.count_in_order.Given as goal
 
 abbrev pub invariant-walking : goal.invariant-walking
 invariant-walking g l = Unit {0}

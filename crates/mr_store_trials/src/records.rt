@@ -1,7 +1,7 @@
 //! Worked records, and bytes that are none.
 
-use super::*;
 use mr_base::{Blob, DefAnswer, Memory};
+use mr_wal::{Batch, Operation, WalBody, WalRecord, read_record, write_record};
 use sqlite_items::Items;
 use std::alloc::Global;
 use std::test::Fail;

@@ -3,8 +3,8 @@
 ghost use Rattle.std.specs.Prelude.{◌≡◌, ◌∷◌, [], IfOk, pos, true, false};
 ghost use Rattle.mr_types.specs.declared.value.Value.TheVariants.{Null as ANull, Number as ANumber, Text as AText};
 
-use super::*;
 use mr_base::{Blob, Malformed, Memory};
+use mr_rowval::{RowRef, encode_row};
 use mr_types::{
     Collation, ColumnDef, ColumnType, FieldRef, IndexDef, Kind, Row, TableDef, Ttl, Value,
 };

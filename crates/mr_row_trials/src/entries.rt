@@ -3,8 +3,8 @@
 ghost use Rattle.std.specs.Prelude.{◌≡◌, ◌∷◌, [], IfOk, pos, true, false};
 ghost use Rattle.mr_types.specs.declared.value.Value.TheVariants.{Number as ANumber, Text as AText};
 
-use super::*;
 use mr_base::{Blob, DefAnswer, Memory};
+use mr_entry::{covers, entries_of, row_of_entry};
 use mr_types::{Collation, ColumnDef, ColumnType, IndexDef, Kind, Row, TableDef, Value};
 use sqlite_items::Items;
 use std::alloc::Global;
