@@ -178,21 +178,29 @@ fn changed(alloc: Global, bytes: &[u8], at: usize, byte: u8) -> Result<Blob, Mem
     Ok(Blob::from_vec(copy))
 }
 
+/// Where an entry of the table offends.
+fn offence_in(alloc: Global, key: &[u8], value: &[u8]) -> Result<u64, Memory> {
+    let def = stamped(alloc)?;
+    Ok(offence(RowRef::decode(&def, key, value)))
+}
+
+/// Where the entry offends with another byte at a place of its key and value.
+fn offence_of_change(alloc: Global, at: usize, byte: u8) -> Result<u64, Memory> {
+    if at < KEY.len() {
+        let key = changed(alloc, KEY, at, byte)?;
+        offence_in(alloc, key.as_slice(), VALUE)
+    } else {
+        let value = changed(alloc, VALUE, at - KEY.len(), byte)?;
+        offence_in(alloc, KEY, value.as_slice())
+    }
+}
+
 #[test]
 fn changed_entries(rt: HostRuntime) -> Result<(), Fail> {
-    let def = stamped(rt.alloc())?;
     for change in CHANGES.chunks(3) {
         if let [at, byte, wanted] = change {
-            let at = *at as usize;
-            let key = changed(rt.alloc(), KEY, at, *byte)?;
-            let value = changed(rt.alloc(), VALUE, at.saturating_sub(KEY.len()), *byte)?;
-            let value = if at < KEY.len() {
-                VALUE
-            } else {
-                value.as_slice()
-            };
-            let decoded = RowRef::decode(&def, key.as_slice(), value);
-            assert_eq!(rt; offence(decoded), *wanted as u64, "{at} is {byte}");
+            let found = offence_of_change(rt.alloc(), *at as usize, *byte)?;
+            assert_eq!(rt; found, *wanted as u64, "{at} is {byte}");
         }
     }
     Ok(())
