@@ -4,3 +4,4 @@ mod Holding
 mod KeysFit
 mod Numbers
 mod Worked
+pub mod FewCommits

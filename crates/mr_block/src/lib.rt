@@ -12,6 +12,3 @@ mod write;
 pub use block_ref::BlockRef;
 pub use builder::BlockBuilder;
 pub use found::Found;
-
-#[cfg(test)]
-mod tests;

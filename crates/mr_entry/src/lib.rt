@@ -15,6 +15,3 @@ pub use entries::entries_of;
 pub use laws::{entries_come_back, only_entries_are_read};
 pub use places::covers;
 pub use rows::row_of_entry;
-
-#[cfg(test)]
-mod tests;

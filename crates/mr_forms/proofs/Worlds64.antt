@@ -1,5 +1,5 @@
--- Worlds whose numbers are of 64 bits stay so, as long as no next hidden number passes 2^64.
-use Rattle.std.proofs.Common.{◌≡◌, ◌⊎◌, inl, inr, ℕ, ◌^◌, ◌≤◌, ◌<◌, max, Bool, true, false, cond, List, [], ◌∷◌, ◌++◌, length, take, filter, find, Option, Some, None, option_map, unwrap_or, Result, Ok, Err, IfOk, refl, ap, sym, subst, ◌∙◌, le_refl, arith, codes}
+-- Statements keep the numbers of worlds of 64 bits, as long as no next hidden number passes 2^64.
+use Rattle.std.proofs.Common.{◌≡◌, inl, inr, ℕ, ◌^◌, ◌≤◌, ◌<◌, max, Bool, true, false, List, [], ◌∷◌, ◌++◌, length, take, filter, find, Option, Some, None, option_map, unwrap_or, Result, Ok, Err, IfOk, refl, ap, sym, subst, ◌∙◌, le_refl, arith, codes}
 use Rattle.std.specs.Prelude.{◌||◌, ◌&&◌, not, if◌then◌else◌, ◌==◌, is_some, nat_lt, nat_le}
 use Rattle.std.specs.List.{list_any}
 use Rattle.std.specs.Option.{option_map_or}
@@ -12,10 +12,7 @@ use Rattle.mr_types.specs.declared.definition.IndexDef.{IndexDef}
 use Rattle.mr_types.specs.declared.row.Row.{Row}
 use Rattle.mr_types.specs.declared.row.Change.{Change}
 use Rattle.mr_types.specs.declared.row.Commit.{Commit}
-use Rattle.mr_types.specs.declared.row.CommitBody.{CommitBody}
-use Rattle.mr_types.specs.declared.row.CommitBody.TheVariants as body
-use Rattle.mr_types.specs.declared.row.Schema.{Schema}
-use Rattle.mr_types.specs.declared.row.Schema.TheVariants.{CreateTable, DropTable, CreateIndex, DropIndex}
+use Rattle.mr_types.specs.declared.row.Schema.TheVariants.{DropTable, CreateIndex, DropIndex}
 use Rattle.mr_types.specs.declared.statement.KeyName.{KeyName}
 use Rattle.mr_types.specs.declared.statement.Select.{Select}
 use Rattle.mr_types.specs.declared.statement.Statement.{Statement}
@@ -24,17 +21,16 @@ use Rattle.mr_types.specs.declared.text.KeyText.{KeyText}
 use Rattle.mr_types.specs.declared.text.TableText.{TableText}
 use Rattle.mr_types.specs.Grammatical.{is_statement, is_name, some_all, is_set, where_given, is_condition}
 use Rattle.mr_types.specs.Refusals.{refuse_where, some_or, each}
-use Rattle.mr_types.specs.Values.{same_bytes}
 use Rattle.mr_spec.specs.Truth.{Where, where_of}
 use Rattle.mr_spec.specs.Changes.{insert_changes, replace_changes, update_changes, delete_changes}
-use Rattle.mr_spec.specs.Rows.{table_name, rows_of, rows_after, visible}
+use Rattle.mr_spec.specs.Rows.{rows_of, visible}
 use Rattle.mr_spec.specs.KeyChecks.{is_named}
-use Rattle.mr_spec.specs.Database.{is_table, table_of, at_table, changed, with_changes, with_schema, with_body, with_commits, replay, changes_in}
+use Rattle.mr_spec.specs.Database.{table_of, replay}
 use Rattle.mr_spec.specs.Weight.{total_weight}
 use Rattle.mr_spec.specs.declared.progress.Progress.{Progress}
 use Rattle.mr_spec.specs.declared.progress.Refusal.{Refusal}
 use Rattle.mr_spec.specs.Progress.{Scene, told}
-use Rattle.mr_spec.specs.World.{World, changes_by, seen_by, view_of, with_txn, with_rows, with_commit, committed, kept_in, entered, using_table, with_number, with_building, at_name, is_stale, is_session, fresh}
+use Rattle.mr_spec.specs.World.{World, changes_by, view_of, with_txn, committed, kept_in, entered, using_table, with_number, with_building, at_name, is_stale, is_session, fresh}
 use Rattle.mr_spec.specs.Outcome.{Outcome, done, refused, answered}
 use Rattle.mr_spec.specs.RowSteps.{on_rows, rows_seen, select_outcome, select_answer, written, not_too_heavy, after_rows, write_outcome, scene_of, start_of}
 use Rattle.mr_spec.specs.Select.{select_tests}
@@ -46,137 +42,19 @@ use Rattle.mr_binlog.specs.CommitFitting.{NumbersFit, HasSmallNumbers, CommitFit
 use Rattle.mr_forms.proofs.Fitting.{lawful-fits}
 use Rattle.mr_spec.specs.ScriptRun.{world_after}
 use Rattle.mr_spec.proofs.Results.{bound, behind, either}
-use Rattle.mr_fields.specs.Fitting.{GivenFits}
 use Rattle.mr_sound.specs.Sound.{IsIn, IsSound, IsSpelled}
-use Rattle.mr_sound.proofs.Basics.{both, tells, false-true, in-append, in-filter, in-take}
-use Rattle.mr_sound.proofs.RowLists.{left-by}
+use Rattle.mr_sound.proofs.Basics.{both, false-true, in-append, in-filter, in-take}
 use Rattle.mr_sound.proofs.Made.{ok-bound, ok-behind}
 use Rattle.mr_sound.proofs.MadeRows.{then-ok}
-use Rattle.mr_sound.proofs.Tables.{changed-of, after, at_its, table-at, table-elsewhere, name-of}
-use Rattle.mr_sound.proofs.Well.{mapped, found-behind, gone-without}
-use Rattle.mr_sound.proofs.Schemas.{bytes-same, IsIdle}
+use Rattle.mr_sound.proofs.Tables.{name-of}
+use Rattle.mr_sound.proofs.Schemas.{IsIdle}
 use Rattle.mr_sound.proofs.StatementsMade.{IsReady}
 use Rattle.mr_sound.proofs.Worlds.{found-in, sound-timed, sound-committed, sound-entered}
 use Rattle.mr_sound.proofs.Writes.{ready-rows}
 use Rattle.mr_forms.specs.Forms.{HasRoom, IsOf64Bits}
-use Rattle.mr_forms.proofs.SmallRows.{row-small, numbers-fit}
 use Rattle.mr_forms.proofs.Short.{short-commits}
-use Rattle.mr_forms.proofs.Bounded.{IsWithin, within-more, AreWithin, IsScene, StaysWithin, insert-within, replace-within, update-within, delete-within}
-
--- ---- rows
-
-small-within : (r : Row) → HasSmallNumbers r → IsWithin (2 ^ 64) r
-small-within r h = record { hidden = given r.hidden h.hidden; stamp = given r.stamp h.stamp }
-  where
-    given : (o : Option ℕ) → GivenFits o → (n : ℕ) → o ≡ Some n → n < 2 ^ 64
-    given None f n e = absurd (none-some n e)
-    given (Some m) f n e = let same : m ≡ n = cc in subst (λ x. x < 2 ^ 64) same f
-
-within-small : (r : Row) → IsWithin (2 ^ 64) r → HasSmallNumbers r
-within-small r w = record { hidden = given r.hidden w.hidden; stamp = given r.stamp w.stamp }
-  where
-    given : (o : Option ℕ) → ((n : ℕ) → o ≡ Some n → n < 2 ^ 64) → GivenFits o
-    given None f = tt
-    given (Some m) f = f m refl
-
-abbrev AreSmall : List Row → Type 0
-AreSmall rows = (r : Row) → IsIn r rows → HasSmallNumbers r
-
-abbrev TablesAreSmall : List Table → Type 0
-TablesAreSmall ts = (n : List ℕ) (t : Table) → table_of n ts ≡ Some t → AreSmall t.rows
-
-abbrev ChangesAreSmall : List Change → Type 0
-ChangesAreSmall cs = (c : Change) (r : Row) → IsIn c cs → IsIn r (rows_of c) → HasSmallNumbers r
-
-small-after : (c : Change) (t : Table) → AreSmall t.rows → ((r : Row) → IsIn r (rows_of c) → HasSmallNumbers r) → AreSmall (after c t).rows
-small-after c t h k = elim (is_table (table_name c) t) as (λ b. AreSmall (cond b (record t { rows = rows_after t.def t.rows c }) t).rows) [
-  | true ↦ λ r i. elim (left-by t.def t.rows c r i) [ inl j ↦ k r j | inr j ↦ h r j ]
-  | false ↦ h
-]
-
-small-changed : (ts : List Table) (c : Change) → TablesAreSmall ts → ((r : Row) → IsIn r (rows_of c) → HasSmallNumbers r) → TablesAreSmall (changed ts c)
-small-changed ts c h k n u e =
-    let x = mapped (after c) (table_of n ts) u (sym (changed-of n ts c) ∙ e) in
-    subst (λ (y : Table). AreSmall y.rows) x.2 (small-after c x.0 (h n x.0 x.1) k)
-
-small-with : (cs : List Change) (ts : List Table) → TablesAreSmall ts → ChangesAreSmall cs → TablesAreSmall (with_changes ts cs)
-small-with [] ts h k = h
-small-with (c ∷ cs) ts h k = small-with cs (changed ts c) (small-changed ts c h (λ r i. k c r (inl refl) i)) (λ d r i j. k d r (inr i) j)
-
-small-at : (m : List ℕ) (f : Table → Table) (ts : List Table) → ((t : Table) → (f t).def.name ≡ t.def.name) → ((t : Table) → (f t).rows ≡ t.rows) → TablesAreSmall ts → TablesAreSmall (at_table m f ts)
-small-at m f ts names same h n u e =
-    let x = mapped (at_its m f) (table_of n ts) u (sym (table-at n m f names ts) ∙ e) in
-    subst (λ (y : Table). AreSmall y.rows) x.2 (by_table x.0 (is_table m x.0) (h n x.0 x.1))
-  where
-    by_table : (t : Table) (b : Bool) → AreSmall t.rows → AreSmall (if b then f t else t).rows
-    by_table t true k = subst AreSmall (sym (same t)) k
-    by_table t false k = k
-
-small-schema : (ts : List Table) (s : Schema) → TablesAreSmall ts → TablesAreSmall (with_schema ts s)
-small-schema ts (CreateTable def) h = λ n t e. elim (found-behind (is_table n) (record { def = def; rows = [] }) t ts e) [
-  | inl f ↦ h n t f
-  | inr same ↦ subst (λ (x : Table). AreSmall x.rows) same (λ r i. absurd i)
-]
-small-schema ts (DropTable name) h = λ n t e. elim (tells (same_bytes name n)) [
-  | inl f ↦ absurd (none-some t (sym (ap (λ x. find (is_table x) (filter (λ t. not (is_table name t)) ts)) (sym (bytes-same name n f)) ∙ gone-without (is_table name) ts) ∙ e))
-  | inr f ↦ h n t (sym (table-elsewhere n (DropTable name) ts f) ∙ e)
-]
-small-schema ts (CreateIndex name key) h = small-at name (λ t. record t { def = record t.def { secondary = t.def.secondary ++ key ∷ [] } }) ts (λ t. refl) (λ t. refl) h
-small-schema ts (DropIndex name key) h = small-at name (λ t. record t { def = record t.def { secondary = filter (λ k. not (is_named key k)) t.def.secondary } }) ts (λ t. refl) (λ t. refl) h
-
-small-body : (ts : List Table) (b : CommitBody) → TablesAreSmall ts → ChangesAreSmall (changes_in b) → TablesAreSmall (with_body ts b)
-small-body ts (body.Rows cs) h k = small-with cs ts h k
-small-body ts (body.Schema s) h k = small-schema ts s h
-
-small-commits : (cs : List Commit) (ts : List Table) → TablesAreSmall ts → ((c : Commit) → IsIn c cs → NumbersFit c) → TablesAreSmall (with_commits ts cs)
-small-commits [] ts h k = h
-small-commits (c ∷ cs) ts h k = small-commits cs (with_body ts c.body) (small-body ts c.body h (row-small c (k c (inl refl)))) (λ d i. k d (inr i))
-
-small-seen : (w : World) → IsOf64Bits w → TablesAreSmall (view_of w.commits w.here.txn)
-small-seen w b = small-with (changes_by w.here.txn) (replay (take (seen_by w.here.txn (length w.commits)) w.commits))
-    (small-commits (take (seen_by w.here.txn (length w.commits)) w.commits) [] (λ n t e. absurd (none-some t e)) (λ c i. b.commits c (in-take (seen_by w.here.txn (length w.commits)) c w.commits i)))
-    (λ c r i j. b.held w.here c r (inl refl) i j)
-
--- ---- worlds
-
-push-in : (cs : List Commit) (x c : Commit) → IsIn c (cs ++ x ∷ []) → IsIn c cs ⊎ (x ≡ c)
-push-in cs x c i = elim (in-append c cs (x ∷ []) i) [ inl j ↦ inl j | inr j ↦ elim j [ inl e ↦ inr e | inr k ↦ absurd k ] ]
-
-of-commit : (w : World) (h : Session) (b : CommitBody) → IsOf64Bits w → changes_by h.txn ≡ [] → NumbersFit (record { moment = w.moment; body = b }) → IsOf64Bits (with_commit b (record w { here = h }))
-of-commit w h b x e n = record {
-  commits = λ c i. elim (push-in w.commits (record { moment = w.moment; body = b }) c i) [ inl j ↦ x.commits c j | inr f ↦ subst NumbersFit f n ];
-  held = λ s c r i j k. elim i [ inl f ↦ absurd (subst (IsIn c) (ap (λ (y : Session). changes_by y.txn) (sym f) ∙ e) j) | inr l ↦ x.held s c r (inr l) j k ];
-  moment = x.moment;
-}
-
-of-rows : (w : World) (h : Session) (c : Change) (cs : List Change) → IsOf64Bits w → changes_by h.txn ≡ [] → ChangesAreSmall (c ∷ cs) → IsOf64Bits (with_commit (body.Rows (c ∷ cs)) (record w { here = h }))
-of-rows w h c cs x e k = of-commit w h (body.Rows (c ∷ cs)) x e (numbers-fit (record { moment = w.moment; body = body.Rows (c ∷ cs) }) x.moment k)
-
-of-here : (w : World) (h : Session) → IsOf64Bits w → ChangesAreSmall (changes_by h.txn) → IsOf64Bits (record w { here = h })
-of-here w h x k = record {
-  commits = x.commits;
-  held = λ s c r i j l. elim i [ inl f ↦ k c r (subst (λ (y : Session). IsIn c (changes_by y.txn)) (sym f) j) l | inr m ↦ x.held s c r (inr m) j l ];
-  moment = x.moment;
-}
-
-of-none : (w : World) → IsOf64Bits w → IsOf64Bits (with_txn None w)
-of-none w x = of-here w (record w.here { txn = None }) x (λ c r i j. absurd i)
-
-of-number : (w : World) (name : List ℕ) (n : ℕ) → IsOf64Bits w → IsOf64Bits (with_number name n w)
-of-number w name n x = record { commits = x.commits; held = x.held; moment = x.moment }
-
-of-building : (w : World) (name : List ℕ) (key : Option IndexDef) → IsOf64Bits w → IsOf64Bits (with_building name key w)
-of-building w name key x = record { commits = x.commits; held = x.held; moment = x.moment }
-
-of-committed : (w : World) → IsOf64Bits w → IsOf64Bits (committed w)
-of-committed w x = by_changes (changes_by w.here.txn) (λ c r i j. x.held w.here c r (inl refl) i j)
-  where
-    by_changes : (xs : List Change) → ChangesAreSmall xs → IsOf64Bits (with_txn None (with_rows xs w))
-    by_changes [] k = of-none w x
-    by_changes (c ∷ cs) k = of-rows w (record w.here { txn = None }) c cs x refl k
-
-of-schema : (w : World) (s : Schema) → IsIdle w → IsOf64Bits w → IsOf64Bits (with_schema_change s w)
-of-schema w s idle x = of-commit w w.here (body.Schema s) x (ap changes_by idle) (numbers-fit (record { moment = w.moment; body = body.Schema s }) x.moment (λ d r i j. absurd i))
+use Rattle.mr_forms.proofs.Bounded.{within-more, AreWithin, IsScene, StaysWithin, insert-within, replace-within, update-within, delete-within}
+use Rattle.mr_forms.proofs.SmallWorlds.{small-within, within-small, AreSmall, ChangesAreSmall, small-seen, of-rows, of-here, of-none, of-number, of-building, of-committed, of-schema}
 
 -- ---- definitions
 

@@ -12,6 +12,3 @@ mod table;
 
 pub use cursor::MemCursor;
 pub use memtable::Memtable;
-
-#[cfg(test)]
-mod tests;

@@ -9,11 +9,11 @@ use Rattle.mr_types.specs.declared.row.Schema.{Schema}
 use Rattle.mr_types.specs.declared.row.Schema.TheVariants.{CreateTable, DropTable, CreateIndex, DropIndex}
 use Rattle.mr_spec.specs.Database.{with_body}
 use Rattle.mr_spec.specs.Lawful.{IsChecked, LawfulSchema, LawfulBody, LawfulFrom}
-use Rattle.mr_model_engine.specs.Few.{FewInSchema, FewInBody, FewColumns}
+use Rattle.mr_schema.specs.Few.{FewInSchema, FewInBody, FewColumns}
 use Rattle.mr_model_engine.proofs.FewChecked.{few_check}
 
-few_checked : (def : TableDef) → IsChecked def → length def.columns ≤ 64
-few_checked def (text, h, e) = subst (λ r. IfOk r (λ (d : TableDef). length d.columns ≤ 64)) e (few_check text)
+few_checked : (def : TableDef) → IsChecked def → length def.columns ≤ 255
+few_checked def (text, h, e) = subst (λ r. IfOk r (λ (d : TableDef). length d.columns ≤ 255)) e (few_check text)
 
 few_schema : (moment : ℕ) (tables : List Table) (s : Schema) → LawfulSchema moment tables s → FewInSchema s
 few_schema moment tables (CreateTable def) h = few_checked def h.1

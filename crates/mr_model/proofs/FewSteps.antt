@@ -30,9 +30,9 @@ use Rattle.mr_spec.specs.SchemaSteps.{created, create_table, drop_table, with_be
 use Rattle.mr_spec.specs.SessionSteps.{rolled_back_to, released, session_outcome}
 use Rattle.mr_spec.specs.Step.{outcome_of, commits_first, begun}
 use Rattle.mr_model_engine.specs.declared.engine.Engine.{Engine}
-use Rattle.mr_model_statements.specs.Acting.{Gives}
+use Rattle.mr_model_engine.specs.Acting.{Gives}
 use Rattle.mr_model_engine.specs.Worlds.{world_in}
-use Rattle.mr_model_engine.specs.Few.{FewInBody, FewColumns}
+use Rattle.mr_schema.specs.Few.{FewInBody, FewColumns}
 use Rattle.mr_model_engine.proofs.Answering.{bound, behind, either, after}
 use Rattle.mr_model_engine.proofs.FewChecked.{few_check}
 
@@ -74,7 +74,7 @@ few_begin : (w : World) (table : List ℕ) (k : KeyText) → Few w → IfOk (beg
 few_begin w table k h = after Few FewOut (with_begun w table k) _ (few_with_begun w table k h) (λ u g. g)
 
 few_created : (w : World) (text : TableText) → Few w → IfOk (created w text) FewOut
-few_created w text h = after (λ def. length def.columns ≤ 64) FewOut (check text) _ (few_check text) (λ def l. few_append w.commits w.moment (body.Schema (schema.CreateTable def)) h l)
+few_created w text h = after (λ def. length def.columns ≤ 255) FewOut (check text) _ (few_check text) (λ def l. few_append w.commits w.moment (body.Schema (schema.CreateTable def)) h l)
 
 few_create_table : (w : World) (text : TableText) (b : Bool) (engine : Option (List ℕ)) → Few w → IfOk (create_table w text b engine) FewOut
 few_create_table w text b engine h = search (behind, either FewOk, few_created, h)

@@ -1,7 +1,7 @@
 //! The run of a script.
 
 ghost use Rattle.std.specs.Prelude.{◌≡◌, ◌++◌, [], OnOk, OnErr, IfOk};
-ghost use Rattle.mr_model_engine.specs.Few.{FewColumns};
+ghost use Rattle.mr_schema.specs.Few.{FewColumns};
 ghost use Rattle.mr_model.specs.Running.{IsRunFrom, IsRun, IsSpent, IsPartlySpent};
 ghost use Rattle.mr_model_engine.specs.Worlds.{world_in};
 ghost use Rattle.mr_spec.specs.ReplyText.{text_of};

@@ -3,17 +3,19 @@
 ghost use Rattle.std.specs.Prelude.{◌≡◌, OnOk};
 ghost use Rattle.mr_types.specs.declared.statement.Statement.TheVariants as kinds;
 ghost use Rattle.mr_spec.specs.Step.{commits_first as first_commits, outcome_of as outcome_in_world, begun, step as step_in};
-ghost use Rattle.mr_model_statements.specs.Acting.{Gives, outcome_in};
-ghost use Rattle.mr_model_engine.specs.Few.{FewColumns};
+ghost use Rattle.mr_model_engine.specs.Acting.{Gives, outcome_in};
+ghost use Rattle.mr_schema.specs.Few.{FewColumns};
 ghost use Rattle.mr_model_engine.specs.Worlds.{world_in};
 
 use crate::cutting::Read;
 use mr_base::Memory;
+use mr_model_definitions::{
+    begin_index, cancel_index, create_index, create_table, drop_index, drop_table, finish_index,
+    lock_tables,
+};
 use mr_model_engine::Engine;
 use mr_model_statements::{
-    Writing, answered, begin, begin_index, cancel_index, create_index, create_table, disconnect,
-    drop_index, drop_table, finish_index, lock_tables, release, roll_back_to, savepoint, select,
-    session, write,
+    Writing, answered, begin, disconnect, release, roll_back_to, savepoint, select, session, write,
 };
 use mr_types::{Reply, Statement};
 use std::alloc::Global;

@@ -18,13 +18,13 @@ all_more keys before [] = omega arith
 all_more keys before (c ∷ cs) = after (λ ds. length ds ≡ length before + 1) (λ ds. length ds ≤ length before + length (c ∷ cs)) (with_column keys before c) _ (one_more keys before c)
     (λ ds e. weaker (λ es. length es ≤ length ds + length cs) _ (in_turn (with_column keys) ds cs) (λ es l. omega arith) (all_more keys ds cs))
 
-within : (b : Bool) (keys : List KeyText) (cs : List ColumnText) → b ≡ nat_lt 64 (length cs) → IfOk (refuse_where 1117 b >> in_turn (with_column keys) [] cs) (λ ds. length ds ≤ 64)
+within : (b : Bool) (keys : List KeyText) (cs : List ColumnText) → b ≡ nat_lt 64 (length cs) → IfOk (refuse_where 1117 b >> in_turn (with_column keys) [] cs) (λ ds. length ds ≤ 255)
 within true keys cs e = tt
-within false keys cs e = weaker (λ ds. length ds ≤ 0 + length cs) (λ ds. length ds ≤ 64) (in_turn (with_column keys) [] cs) (λ ds l. let s = sym e in grind arith) (all_more keys [] cs)
+within false keys cs e = weaker (λ ds. length ds ≤ 0 + length cs) (λ ds. length ds ≤ 255) (in_turn (with_column keys) [] cs) (λ ds l. let s = sym e in grind arith) (all_more keys [] cs)
 
-few_columns : (text : TableText) → IfOk (checked_columns text) (λ ds. length ds ≤ 64)
+few_columns : (text : TableText) → IfOk (checked_columns text) (λ ds. length ds ≤ 255)
 few_columns text = within (nat_lt 64 (length text.columns)) text.keys text.columns refl
 
-pub few_check : (text : TableText) → IfOk (check text) (λ def. length def.columns ≤ 64)
-few_check text = after (λ ds. length ds ≤ 64) (λ def. length def.columns ≤ 64) (checked_columns text) _ (few_columns text)
+pub few_check : (text : TableText) → IfOk (check text) (λ def. length def.columns ≤ 255)
+few_check text = after (λ ds. length ds ≤ 255) (λ def. length def.columns ≤ 255) (checked_columns text) _ (few_columns text)
     (λ ds l. search (bound, l))

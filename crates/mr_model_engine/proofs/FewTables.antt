@@ -10,11 +10,11 @@ use Rattle.mr_types.specs.declared.row.CommitBody.TheVariants as body
 use Rattle.mr_types.specs.declared.row.Commit.{Commit}
 use Rattle.mr_spec.specs.declared.world.Table.{Table}
 use Rattle.mr_spec.specs.Database.{is_table, table_of, at_table, changed, with_changes, with_schema, with_body, with_commits, replay}
-use Rattle.mr_model_engine.specs.Few.{FewInSchema, FewInBody, FewColumns}
+use Rattle.mr_schema.specs.Few.{FewInSchema, FewInBody, FewColumns}
 
 -- the table has few columns
 abbrev pub Few : Table → Type 0
-Few t = length t.def.columns ≤ 64
+Few t = length t.def.columns ≤ 255
 
 -- each of these has
 abbrev pub AllFew : List Table → Type 0
@@ -72,5 +72,5 @@ few-find name [] h = tt
 few-find name (t ∷ ts) h = few-either (is_table name t) t (table_of name ts) h.0 (few-find name ts h.1)
 
 -- a table that is found has few columns
-pub few_found : (commits : List Commit) (name : List ℕ) (t : Table) → FewColumns commits → table_of name (replay commits) ≡ Some t → length t.def.columns ≤ 64
+pub few_found : (commits : List Commit) (name : List ℕ) (t : Table) → FewColumns commits → table_of name (replay commits) ≡ Some t → length t.def.columns ≤ 255
 few_found commits name t h e = subst IfSomeFew e (few-find name (replay commits) (few-commits [] commits tt h))

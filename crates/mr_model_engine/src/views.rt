@@ -8,7 +8,7 @@ ghost use Rattle.mr_spec.specs.Database.{table_of as table_found, replay as repl
 ghost use Rattle.mr_spec.specs.World.{has_used as used_by};
 ghost use Rattle.mr_spec.specs.SchemaSteps.{table_in as table_there, used_elsewhere as used_by_others};
 ghost use Rattle.mr_model_engine.specs.Worlds.{numbers_in, world_in};
-ghost use Rattle.mr_model_engine.specs.Few.{FewColumns};
+ghost use Rattle.mr_schema.specs.Few.{FewColumns};
 
 use crate::engine::{Engine, NextNumber};
 use mr_base::{Blob, Memory};
@@ -31,7 +31,7 @@ pub fn committed_table(alloc: Global, engine: &Engine, name: &[u8]) -> Result<Op
 #[tactic(auto, using(crate::proofs::FewTables::few_found))]
 pub fn table_in(alloc: Global, engine: &Engine, name: &[u8]) -> Result<Table, Refused>
     ensures answers { Answers result (table_there (world_in engine.now) name.now) }
-    ensures few { FewColumns engine.now.commits → IfOk result (λ t. length t.def.columns ≤ 64) }
+    ensures few { FewColumns engine.now.commits → IfOk result (λ t. length t.def.columns ≤ 255) }
 {
     match committed_table(alloc, engine, name)? {
         Some(table) => Ok(table),

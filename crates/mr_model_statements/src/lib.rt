@@ -1,12 +1,8 @@
-//! What each kind of statement does to the plain program's engine, and its reply.
+//! What statements on rows, transactions and sessions do to the plain program's engine, and their replies.
 #![tactic(auto)]
 
-mod index_steps;
 mod row_steps;
-mod schema_steps;
 mod session_steps;
 
-pub use index_steps::{begin_index, cancel_index, create_index, drop_index, finish_index};
 pub use row_steps::{Writing, answered, select, write};
-pub use schema_steps::{create_table, drop_table, lock_tables};
 pub use session_steps::{begin, disconnect, release, roll_back_to, savepoint, session};

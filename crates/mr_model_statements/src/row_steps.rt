@@ -9,7 +9,7 @@ ghost use Rattle.mr_spec.specs.RowSteps.{on_rows, select_answer, select_outcome,
 ghost use Rattle.mr_spec.specs.Truth.{where_of};
 ghost use Rattle.mr_spec.specs.Weight.{total_weight};
 ghost use Rattle.mr_spec.specs.World.{changes_by};
-ghost use Rattle.mr_model_statements.specs.Acting.{Acts, Gives};
+ghost use Rattle.mr_model_engine.specs.Acting.{Acts, Gives};
 ghost use Rattle.mr_model_statements.specs.Opening.{Opens, changes_by_writing};
 ghost use Rattle.mr_model_changes.specs.Telling.{Tells, scene_in};
 ghost use Rattle.mr_model_engine.specs.Worlds.{world_in};

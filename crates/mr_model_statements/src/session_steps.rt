@@ -9,7 +9,7 @@ ghost use Rattle.mr_spec.specs.Outcome.{done};
 ghost use Rattle.mr_spec.specs.SessionSteps.{new_txn as new_txn_of, is_savepoint as has_savepoint_name, with_savepoint as savepoint_made, savepoints_before as in_front_of, rolled_back_to, released, session_outcome};
 ghost use Rattle.std.specs.Option.{option_map};
 ghost use Rattle.mr_model_engine.specs.Worlds.{world_in};
-ghost use Rattle.mr_model_statements.specs.Acting.{Acts, Gives, outcome_in};
+ghost use Rattle.mr_model_engine.specs.Acting.{Acts, Gives, outcome_in};
 
 use mr_base::{Blob, Memory};
 use mr_model_engine::{Engine, fresh_session};

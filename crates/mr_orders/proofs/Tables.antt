@@ -64,7 +64,7 @@ less-back Less b e f g = cc
 less-back Equal b e f g = cc
 less-back Greater b e f g = e
 
-before-all : (def : TableDef) (x y : Row) (ys : List Row) → primary_cmp def x y ≡ Less → AllByRecursion (λ s. primary_cmp def y s ≡ Less) ys → AllByRecursion (λ s. primary_cmp def x s ≡ Less) ys
+pub before-all : (def : TableDef) (x y : Row) (ys : List Row) → primary_cmp def x y ≡ Less → AllByRecursion (λ s. primary_cmp def y s ≡ Less) ys → AllByRecursion (λ s. primary_cmp def x s ≡ Less) ys
 before-all def x y [] less all = tt
 before-all def x y (z ∷ zs) less all = ((primary_total def).trans x y z less all.0, before-all def x y zs less all.1)
 
@@ -79,7 +79,7 @@ not-true : (b : Bool) → not b ≡ true → b ≡ false
 not-true true e = cc
 not-true false e = refl
 
-none-kept : (p : Row → Bool) (rs : List Row) → AllByRecursion (λ s. p s ≡ false) (filter (λ s. not (p s)) rs)
+pub none-kept : (p : Row → Bool) (rs : List Row) → AllByRecursion (λ s. p s ≡ false) (filter (λ s. not (p s)) rs)
 none-kept p [] = tt
 none-kept p (r ∷ rs) = elim (cases_Bool (p r)) [
   | inl e ↦ rw e (none-kept p rs)
@@ -89,7 +89,7 @@ none-kept p (r ∷ rs) = elim (cases_Bool (p r)) [
 ascends-put : (def : TableDef) (row : Row) (rs : List Row) → IsAscending def rs → IsAscending def (put def row rs)
 ascends-put def row rs all = ascends-placed def row (without def row rs) (none-kept (same_primary def row) rs) (ascends-kept def (λ r. not (same_primary def row r)) rs all)
 
-ascends-after : (def : TableDef) (rs : List Row) (c : Change) → IsAscending def rs → IsAscending def (rows_after def rs c)
+pub ascends-after : (def : TableDef) (rs : List Row) (c : Change) → IsAscending def rs → IsAscending def (rows_after def rs c)
 ascends-after def rs (Insert table new) all = ascends-put def new rs all
 ascends-after def rs (Update table old new) all = ascends-put def new (without def old rs) (ascends-kept def (λ r. not (same_primary def old r)) rs all)
 ascends-after def rs (Delete table old) all = ascends-kept def (λ r. not (same_primary def old r)) rs all

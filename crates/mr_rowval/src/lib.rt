@@ -24,6 +24,3 @@ pub use encode::{encode_row, push_forms, push_stamp};
 pub use key::{held_field, is_in, key_at, unpack_at, wanted_at};
 pub use laws::{only_rows_are_read, rows_come_back};
 pub use row_ref::{RowRef, is_hidden};
-
-#[cfg(test)]
-mod tests;

@@ -19,7 +19,7 @@ use Rattle.mr_same_worlds.specs.SameWorld.{IsTidy}
 use Rattle.mr_same_worlds.proofs.Absent.{both, name-is, is-name, IsAbsent, none-some, absent-changed, absent-indexed}
 
 -- an absent table begins with 1
-abbrev Begins : (List ℕ → ℕ) → List Table → Type 0
+abbrev pub Begins : (List ℕ → ℕ) → List Table → Type 0
 Begins f ts = (name : List ℕ) → IsAbsent name ts → f name ≡ 1
 
 -- a lawful change is of a table that is there
@@ -72,7 +72,7 @@ begins-body : (moment : ℕ) (f : List ℕ → ℕ) (ts : List Table) (b : Commi
 begins-body moment f ts (body.Rows cs) l h = begins-changes moment f ts cs l.1 h
 begins-body moment f ts (body.Schema s) l h = begins-schema f ts s h
 
-begins-commits : (moment : ℕ) (f : List ℕ → ℕ) (ts : List Table) (cs : List Commit) → LawfulFrom moment ts cs → Begins f ts → Begins (numbers_after f cs) (with_commits ts cs)
+pub begins-commits : (moment : ℕ) (f : List ℕ → ℕ) (ts : List Table) (cs : List Commit) → LawfulFrom moment ts cs → Begins f ts → Begins (numbers_after f cs) (with_commits ts cs)
 begins-commits moment f ts [] l h = h
 begins-commits moment f ts (c ∷ cs) l h = begins-commits c.moment (numbers_by_body f c.body) (with_body ts c.body) cs l.2 (begins-body c.moment f ts c.body l.1 h)
 

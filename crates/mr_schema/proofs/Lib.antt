@@ -5,3 +5,4 @@ pub mod DefinitionLaws
 pub mod CheckedColumns
 pub mod CheckedDefinitions
 pub mod RowsFit
+pub mod FewRead

@@ -2,3 +2,4 @@ pub mod Said
 pub mod Widths
 pub mod DefinitionForm
 pub mod DefinitionFitting
+pub mod Few

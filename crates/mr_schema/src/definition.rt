@@ -105,7 +105,7 @@ pub fn check_key_beside(
     taken: &[Blob],
     key: &KeyText,
 ) -> Result<IndexDef, Refused>
-    requires few { length def.now.columns ≤ 64 }
+    requires few { length def.now.columns ≤ 255 }
     ensures { Answers result (checked_beside def.now taken.now key.now) }
 {
     key_of(
@@ -120,7 +120,7 @@ pub fn check_key_beside(
 
 /// A further key of a table, or the first of its refusals.
 pub fn check_key(alloc: Global, def: &TableDef, key: &KeyText) -> Result<IndexDef, Refused>
-    requires few { length def.now.columns ≤ 64 }
+    requires few { length def.now.columns ≤ 255 }
     ensures { Answers result (checked_beside def.now [] key.now) }
 {
     check_key_beside(alloc, def, &[], key)

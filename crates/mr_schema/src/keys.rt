@@ -84,7 +84,7 @@ fn is_taken(name: &[u8], taken: &[Blob], keys: &[IndexDef]) -> bool
 
 /// The places of these columns, or 1072.
 fn places_of(alloc: Global, columns: &[ColumnDef], names: &[Blob]) -> Result<Blob, Refused>
-    requires few { length columns.now ≤ 64 }
+    requires few { length columns.now ≤ 255 }
     ensures answers { Answers result (places_in columns.now names.now) }
     ensures count { IfOk result (λ places. length places ≡ length names.now) }
 {
@@ -110,7 +110,7 @@ pub(crate) fn key_of(
     taken: &[Blob],
     key: &KeyText,
 ) -> Result<IndexDef, Refused>
-    requires few { length columns.now ≤ 64 }
+    requires few { length columns.now ≤ 255 }
     ensures { Answers result (checked_key columns.now has_primary secondary.now taken.now key.now) }
 {
     if !key.primary && secondary.len() >= 16 {
@@ -168,7 +168,7 @@ pub(crate) struct Keys {
 impl Keys {
     /// These keys and one more, or the first of its refusals.
     fn with_key(self, alloc: Global, columns: &[ColumnDef], key: &KeyText) -> Result<Keys, Refused>
-        requires few { length columns.now ≤ 64 }
+        requires few { length columns.now ≤ 255 }
         ensures { SaysKeys result (and_key columns.now (said_keys self) key.now) }
     {
         let def = key_of(
@@ -195,7 +195,7 @@ pub(crate) fn keys_of(
     columns: &[ColumnDef],
     written: &[KeyText],
 ) -> Result<Keys, Refused>
-    requires few { length columns.now ≤ 64 }
+    requires few { length columns.now ≤ 255 }
     ensures { SaysKeys result (in_turn (and_key columns.now) no_keys written.now) }
 {
     let mut keys = Keys {

@@ -13,11 +13,14 @@ pub mod Well
 pub mod Commits
 pub mod Worlds
 pub mod Schemas
+pub mod DroppedKeys
 pub mod Writes
 pub mod Steps
 pub mod Scripts
 pub mod Holding
 pub mod Drawing
+pub mod NumberedWorlds
 pub mod Numbered
 pub mod Tuples
 pub mod Growing
+pub mod TextRows

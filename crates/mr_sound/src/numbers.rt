@@ -6,11 +6,11 @@ ghost use Rattle.mr_types.specs.declared.statement.Statement.{Statement};
 ghost use Rattle.mr_types.specs.declared.statement.Statement.TheVariants as statement;
 ghost use Rattle.mr_types.specs.Grammatical.{is_statement};
 ghost use Rattle.mr_types.specs.Sizes.{statement_size};
+ghost use Rattle.mr_spec.specs.declared.progress.Progress.{Progress};
+ghost use Rattle.mr_spec.specs.Progress.{Scene};
 ghost use Rattle.mr_spec.specs.Replay.{reopened};
 ghost use Rattle.mr_spec.specs.ScriptRun.{world_after};
 ghost use Rattle.mr_spec.specs.World.{World};
-ghost use Rattle.mr_spec.specs.declared.progress.Progress.{Progress};
-ghost use Rattle.mr_spec.specs.Progress.{Scene};
 ghost use Rattle.mr_sound.specs.Sound.{IsSound, IsSpelled, AreNumbered};
 ghost use Rattle.mr_sound.specs.Draws.{DrawsFew, RisesBy, draws_by, rows_made, IsNoDrop, ForgetsAt};
 

@@ -6,3 +6,4 @@ pub mod RowsRead
 pub mod ConditionsRead
 pub mod SelectsRead
 pub mod TablesRead
+pub mod StatementsRead

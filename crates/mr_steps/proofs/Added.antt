@@ -36,9 +36,11 @@ use Rattle.mr_spec.specs.ScriptRun.{event_at}
 use Rattle.mr_spec.proofs.Results.{bound, behind, either, after}
 use Rattle.mr_sound.proofs.Made.{ok-bound, ok-behind}
 use Rattle.mr_sound.proofs.MadeRows.{then-ok}
+use Rattle.mr_sound.proofs.NewFits.{some-ok}
 use Rattle.mr_sound.proofs.Tables.{name-of}
 use Rattle.mr_sound.proofs.Schemas.{check-name}
-use Rattle.mr_steps.specs.Adding.{rows_commit, first_commit, MayCommit, IsOneAtMost, IsOwn, Adds}
+use Rattle.mr_steps.specs.Adding.{AreOf, rows_commit, first_commit, MayCommit, IsOneAtMost, IsOwn, Adds}
+use Rattle.mr_steps.proofs.OneTable.{Owns, insert-owns, replace-owns, update-owns, delete-owns, written-owns}
 
 -- ---- one commit more, or none
 
@@ -61,10 +63,6 @@ commit_at w b = record { moment = w.moment; body = b }
 rows-more : (P : Commit → Type 0) (w : World) (xs : List Change) → P (commit_at w (body.Rows xs)) → MoreBy P w.commits (with_rows xs w).commits
 rows-more P w [] h = none-more P w.commits w.commits refl
 rows-more P w (x ∷ xs) h = one-more P w.commits (commit_at w (body.Rows (x ∷ xs))) h
-
-some-ok : {A : Type 0} (code : ℕ) (o : Option A) (x : A) → some_or code o ≡ Ok x → o ≡ Some x
-some-ok code None x e = absurd cc
-some-ok code (Some y) x e = let f : y ≡ x = cc in ap Some f
 
 -- ---- statements on definitions
 
@@ -164,15 +162,15 @@ kept-more : (P : Commit → Type 0) (u : World) (o : Option Txn) (xs : List Chan
 kept-more P u None xs h = rows-more P u xs (h refl)
 kept-more P u (Some t) xs h = none-more P u.commits u.commits refl
 
-after_rows-more : (P : Commit → Type 0) (name : List ℕ) (u : World) (r : Result Progress Refusal) → ((xs : List Change) → u.here.txn ≡ None → P (commit_at u (body.Rows xs))) → MoreBy P u.commits (after_rows name u r).world.commits
-after_rows-more P name u (Ok g) h = kept-more P (with_number name g.next u) u.here.txn g.changes (h g.changes)
-after_rows-more P name u (Err e) h = either (λ (v : World). MoreBy P u.commits v.commits) (e.code == 1213) (rolled_back (with_number name e.next u)) (with_number name e.next u) (none-more P u.commits u.commits refl) (none-more P u.commits u.commits refl)
+after_rows-more : (P : Commit → Type 0) (name : List ℕ) (u : World) (r : Result Progress Refusal) → IfOk r (λ g. AreOf name g.changes) → ((xs : List Change) → AreOf name xs → u.here.txn ≡ None → P (commit_at u (body.Rows xs))) → MoreBy P u.commits (after_rows name u r).world.commits
+after_rows-more P name u (Ok g) own h = kept-more P (with_number name g.next u) u.here.txn g.changes (h g.changes own)
+after_rows-more P name u (Err e) own h = either (λ (v : World). MoreBy P u.commits v.commits) (e.code == 1213) (rolled_back (with_number name e.next u)) (with_number name e.next u) (none-more P u.commits u.commits refl) (none-more P u.commits u.commits refl)
 
-write-more : (P : Commit → Type 0) (name : List ℕ) (changes : Scene → Progress → Result Progress Refusal) (w : World) → ((xs : List Change) → w.here.txn ≡ None → P (commit_at w (body.Rows xs))) → MoreBy P w.commits (on_rows name (write_outcome changes) w).world.commits
-write-more P name changes w h = (elim (table_of name (replay w.commits)) as (λ t. table_of name (replay w.commits) ≡ t → MoreBy P w.commits (on_rows name (write_outcome changes) w).world.commits) [
+write-more : (P : Commit → Type 0) (name : List ℕ) (changes : Scene → Progress → Result Progress Refusal) (w : World) → Owns changes → ((xs : List Change) → AreOf name xs → w.here.txn ≡ None → P (commit_at w (body.Rows xs))) → MoreBy P w.commits (on_rows name (write_outcome changes) w).world.commits
+write-more P name changes w owns h = (elim (table_of name (replay w.commits)) as (λ t. table_of name (replay w.commits) ≡ t → MoreBy P w.commits (on_rows name (write_outcome changes) w).world.commits) [
   | None ↦ λ e. rw e (none-more P w.commits w.commits refl)
   | Some t ↦ λ e. rw e (either (λ (o : Outcome). MoreBy P w.commits o.world.commits) (is_stale name (entered name w)) (refused (entered name w) 1412) (write_outcome changes t (entered name w)) (none-more P w.commits w.commits refl)
-      (after_rows-more P t.def.name (entered name w) (written changes t (entered name w)) (λ xs f. h xs (mapped-none (using_table name (length w.commits)) w.here.txn f))))
+      (after_rows-more P t.def.name (entered name w) (written changes t (entered name w)) (written-owns changes t (entered name w) owns) (λ xs own f. h xs (subst (λ n. AreOf n xs) (name-of name (replay w.commits) t e) own) (mapped-none (using_table name (length w.commits)) w.here.txn f))))
 ]) refl
 
 -- ---- the step
@@ -188,8 +186,8 @@ own-answered P w (Err code) h = none-more P w.commits w.commits refl
 own-none : (s : Statement) (w : World) → (outcome_of s w).world.commits ≡ w.commits → OwnMore s w
 own-none s w e = none-more (IsOwn s w.moment w.here.txn) w.commits (outcome_of s w).world.commits e
 
-own-rows : (s : Statement) (name : List ℕ) (changes : Scene → Progress → Result Progress Refusal) (w : World) → ((xs : List Change) → w.here.txn ≡ None → MayCommit s w.here.txn (body.Rows xs)) → MoreBy (IsOwn s w.moment w.here.txn) w.commits (on_rows name (write_outcome changes) w).world.commits
-own-rows s name changes w h = write-more (IsOwn s w.moment w.here.txn) name changes w (λ xs e. (refl, h xs e))
+own-rows : (s : Statement) (name : List ℕ) (changes : Scene → Progress → Result Progress Refusal) (w : World) → Owns changes → ((xs : List Change) → AreOf name xs → w.here.txn ≡ None → MayCommit s w.here.txn (body.Rows xs)) → MoreBy (IsOwn s w.moment w.here.txn) w.commits (on_rows name (write_outcome changes) w).world.commits
+own-rows s name changes w owns h = write-more (IsOwn s w.moment w.here.txn) name changes w owns (λ xs own e. (refl, h xs own e))
 
 own-outcome : (s : Statement) (w : World) → OwnMore s w
 own-outcome (statement.CreateTable text b engine) w = own-answered _ w _ (create-more (IsOwn (statement.CreateTable text b engine) w.moment w.here.txn) w text b engine (λ s e. (refl, e)))
@@ -199,10 +197,10 @@ own-outcome (statement.DropIndex n) w = own-answered _ w _ (drop_index-more (IsO
 own-outcome (statement.BeginIndex table key) w = own-none (statement.BeginIndex table key) w (same-answered w (begin_index w table key) (same-begin w table key))
 own-outcome (statement.FinishIndex n) w = own-answered _ w _ (finish-more (IsOwn (statement.FinishIndex n) w.moment w.here.txn) w n (λ s e. (refl, e)))
 own-outcome (statement.CancelIndex n) w = own-none (statement.CancelIndex n) w (same-answered w (cancel_index w n) (same-cancel w n))
-own-outcome (statement.Insert s) w = own-rows (statement.Insert s) s.table (λ a g. insert_changes a s g) w (λ xs e. e)
-own-outcome (statement.Replace s) w = own-rows (statement.Replace s) s.table (λ a g. replace_changes a s g) w (λ xs e. e)
-own-outcome (statement.Update table set c) w = own-rows (statement.Update table set c) table (λ a g. update_changes a set (where_of c) g) w (λ xs e. e)
-own-outcome (statement.Delete table c) w = own-rows (statement.Delete table c) table (λ a g. delete_changes a (where_of c) g) w (λ xs e. e)
+own-outcome (statement.Insert s) w = own-rows (statement.Insert s) s.table (λ a g. insert_changes a s g) w (insert-owns s) (λ xs own e. (e, own))
+own-outcome (statement.Replace s) w = own-rows (statement.Replace s) s.table (λ a g. replace_changes a s g) w (replace-owns s) (λ xs own e. (e, own))
+own-outcome (statement.Update table set c) w = own-rows (statement.Update table set c) table (λ a g. update_changes a set (where_of c) g) w (update-owns set (where_of c)) (λ xs own e. (e, own))
+own-outcome (statement.Delete table c) w = own-rows (statement.Delete table c) table (λ a g. delete_changes a (where_of c) g) w (delete-owns (where_of c)) (λ xs own e. (e, own))
 own-outcome (statement.Select s) w = own-none (statement.Select s) w (same-select s (where_of s.condition) w)
 own-outcome (statement.Begin snapshot) w = own-none (statement.Begin snapshot) w refl
 own-outcome statement.Commit w = rows-more (IsOwn statement.Commit w.moment w.here.txn) w (changes_by w.here.txn) (refl, refl)

@@ -1,3 +1,4 @@
+pub mod OneTable
 pub mod Added
 pub mod LastDefined
 pub mod SinceOpening

@@ -7,9 +7,11 @@ use Rattle.mr_types.specs.declared.row.CommitBody.TheVariants as body
 use Rattle.mr_types.specs.declared.statement.Statement.{Statement}
 use Rattle.mr_types.specs.declared.statement.Statement.TheVariants as statement
 use Rattle.mr_spec.specs.declared.world.Txn.{Txn}
+use Rattle.mr_spec.specs.Rows.{table_name}
 use Rattle.mr_spec.specs.Database.{schema_table}
 use Rattle.mr_spec.specs.Step.{commits_first}
 use Rattle.mr_spec.specs.World.{World, changes_by}
+use Rattle.mr_sound.specs.Sound.{IsIn}
 
 -- a commit of these changes at this moment; of no change there is none
 abbrev pub rows_commit : ℕ → List Change → List Commit
@@ -25,10 +27,14 @@ abbrev pub IsOfTable : List ℕ → CommitBody → Type 0
 IsOfTable table (body.Rows changes) = ⊥
 IsOfTable table (body.Schema change) = schema_table change ≡ table
 
--- changes of rows, outside a transaction
-abbrev pub IsAlone : Option Txn → CommitBody → Type 0
-IsAlone txn (body.Rows changes) = txn ≡ None
-IsAlone txn (body.Schema change) = ⊥
+-- each of these changes is of this table
+abbrev pub AreOf : List ℕ → List Change → Type 0
+AreOf table changes = (c : Change) → IsIn c changes → table_name c ≡ table
+
+-- changes of this table's rows, outside a transaction
+abbrev pub IsAlone : List ℕ → Option Txn → CommitBody → Type 0
+IsAlone table txn (body.Rows changes) = (txn ≡ None) × AreOf table changes
+IsAlone table txn (body.Schema change) = ⊥
 
 -- what a statement may commit by itself, in a session with this transaction
 abbrev pub MayCommit : Statement → Option Txn → CommitBody → Type 0
@@ -37,10 +43,10 @@ MayCommit (statement.DropTable table if_exists) txn b = IsOfTable table b
 MayCommit (statement.CreateIndex table key) txn b = IsOfTable table b
 MayCommit (statement.DropIndex n) txn b = IsOfTable n.table b
 MayCommit (statement.FinishIndex n) txn b = IsOfTable n.table b
-MayCommit (statement.Insert s) txn b = IsAlone txn b
-MayCommit (statement.Replace s) txn b = IsAlone txn b
-MayCommit (statement.Update table set condition) txn b = IsAlone txn b
-MayCommit (statement.Delete table condition) txn b = IsAlone txn b
+MayCommit (statement.Insert s) txn b = IsAlone s.table txn b
+MayCommit (statement.Replace s) txn b = IsAlone s.table txn b
+MayCommit (statement.Update table set condition) txn b = IsAlone table txn b
+MayCommit (statement.Delete table condition) txn b = IsAlone table txn b
 MayCommit statement.Commit txn b = b ≡ body.Rows (changes_by txn)
 MayCommit _ txn b = ⊥
 

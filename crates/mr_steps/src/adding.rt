@@ -8,8 +8,8 @@ ghost use Rattle.mr_steps.specs.Adding.{Adds};
 
 /// A statement adds the open transaction's commit, where it commits it first, and then at most one of
 /// its own, each at the statement's moment: COMMIT that of the transaction, a statement on rows one of
-/// rows, outside a transaction, a statement on a definition one of its table. All others add none, nor
-/// does a text that is no statement.
+/// its table's rows, outside a transaction, a statement on a definition one of its table. All others
+/// add none, nor does a text that is no statement.
 pub fn statements_add_one_commit_at_most()
     ensures adds { (w : World) (s : Statement) (clock : ℕ) → Adds w s clock (event_at w (Ok s) clock).added }
     ensures unread { (w : World) (code clock : ℕ) → (event_at w (Err code) clock).added ≡ [] }

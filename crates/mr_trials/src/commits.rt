@@ -116,11 +116,18 @@ fn room_is_told(rt: HostRuntime) -> Result<(), Fail> {
 }
 
 #[test]
-fn no_commit_is_damage_at_its_place(rt: HostRuntime) -> Result<(), Fail> {
+fn no_commit_is_damage_at_its_first_offence(rt: HostRuntime) -> Result<(), Fail> {
     let alloc = rt.alloc();
-    for (at, byte) in [(13, 5), (14, 0), (20, 7), (26, 2), (35, 2), (41, 1)] {
+    for (at, byte, place) in [
+        (13, 5, 13),
+        (14, 0, 14),
+        (20, 7, 20),
+        (26, 2, 29),
+        (35, 2, 41),
+        (41, 1, 40),
+    ] {
         let stop = damage(alloc, at, byte);
-        assert!(rt; matches!(stop, Ok(Some(Stop::Damaged { file: 1, at: 0 }))));
+        assert_eq!(rt; stop, Ok(Some(Stop::Damaged { file: 1, at: place })));
     }
     Ok(())
 }

@@ -38,6 +38,3 @@ pub use statement::{
 };
 pub use text::{ColumnText, ColumnTextList, KeyText, KeyTextList, TableText};
 pub use value::{RowTable, Value, ValueList};
-
-#[cfg(test)]
-mod tests;

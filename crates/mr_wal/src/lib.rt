@@ -12,6 +12,3 @@ pub use operation::{Batch, Operation};
 pub use read::read_record;
 pub use record::{WalBody, WalRecord};
 pub use write::write_record;
-
-#[cfg(test)]
-mod tests;

@@ -1,5 +1,5 @@
 use Rattle.std.proofs.Common.{drop}
-use Rattle.mr_model_engine.specs.Few.{FewColumns}
+use Rattle.mr_schema.specs.Few.{FewColumns}
 use Rattle.mr_model.specs.Running.{GoesOn}
 use Rattle.mr_model_engine.specs.Worlds.{world_in}
 use Rattle.mr_model.proofs.script.run_from.Given as goal

@@ -1,7 +1,0 @@
-use Rattle.mr_memtable.proofs.tests.count_in_order.Given as goal
-
-abbrev pub invariant-walking : goal.invariant-walking
-invariant-walking g l = Unit {0}
-
-abbrev pub decreases-walking : goal.decreases-walking
-decreases-walking g l = (g.C.Listed.cursor l.cursor).steps

@@ -1,5 +1,0 @@
-use Rattle.std.proofs.Common.{◌≡◌}
-use Rattle.mr_memtable.proofs.tests.table_of.Given as goal
-
-abbrev pub invariant-adding : goal.invariant-adding
-invariant-adding l = l.table.direction ≡ l.fn.direction

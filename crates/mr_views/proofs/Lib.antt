@@ -1,0 +1,4 @@
+pub mod Folds
+pub mod Own
+pub mod Visible
+pub mod Above
