@@ -7,3 +7,4 @@ pub mod ConditionsRead
 pub mod SelectsRead
 pub mod TablesRead
 pub mod StatementsRead
+pub mod TextsRead

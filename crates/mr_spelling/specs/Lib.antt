@@ -6,3 +6,4 @@ pub mod Conditions
 pub mod Selects
 pub mod Tables
 pub mod Statements
+pub mod Texts
