@@ -9,3 +9,4 @@ pub mod Feeding
 pub mod Taking
 pub mod Whole
 pub mod Concluding
+pub mod Wording

@@ -2,8 +2,8 @@ use Rattle.mr_commit_log.proofs.GoingOn.{goes_tells}
 use Rattle.mr_run.proofs.Whole.{settled_at_rest, run_unopened, run_cut, run_done}
 use Rattle.mr_run.proofs.top_call.run_all.Goals as goal
 
-pub open-requires : goal.open-requires
-open-requires g c = ?
+
+
 
 pub returns-in_err-open-clause-runs : goal.returns-in_err-open-clause-runs
 returns-in_err-open-clause-runs g c = λ tells commits stands pending.
