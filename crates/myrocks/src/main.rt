@@ -1,19 +1,11 @@
-//! `myrocks run FOLDER` serves a script of SQL statements, which it reads from standard input, from the tables in a folder.
+//! `myrocks run FOLDER [--now=SECS] [--log-limit=BYTES]` serves a script of SQL statements, which it reads from standard input, from
+//! the tables in a folder.
 #![tactic(auto)]
-
-mod commit_log;
-mod emit;
-mod ending;
-mod opening;
-mod run;
-mod script;
-mod server;
-mod shell;
 
 use mr_base::Stop;
 use mr_edge::{FolderHost, StdinSource, SystemClock};
+use mr_run::{Report, run};
 use mr_words::folders;
-use run::{Report, run};
 use std::process::ExitCode;
 use std::{env, io};
 
@@ -79,6 +71,3 @@ fn main(rt: HostRuntime) -> ExitCode {
     explain(&rt, status, report.stop);
     ExitCode::from(status)
 }
-
-#[cfg(test)]
-mod tests;

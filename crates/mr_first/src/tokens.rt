@@ -1,9 +1,0 @@
-//! The kinds of tokens.
-
-/// A token's kind. A keyword or an unquoted name is a `Word`.
-#[derive(Clone, Copy, Drop)]
-pub enum TokenKind {
-    Word,
-    Number,
-    Sign,
-}

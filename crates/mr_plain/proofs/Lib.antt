@@ -1,3 +1,0 @@
-pub mod Munch
-pub mod TokensOf
-pub mod PlainLaws
