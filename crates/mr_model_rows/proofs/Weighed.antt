@@ -1,5 +1,5 @@
 -- Weights of changes in two parts.
-use Rattle.std.proofs.Common.{◌≡◌, ℕ, ◌+◌, List, ◌++◌, min, sym, ap, ◌∙◌, nat_eq, nat_lt, Bool, arith}
+use Rattle.std.proofs.Common.{◌≡◌, ℕ, ◌+◌, List, ◌++◌, min, sym, ap, ◌∙◌, arith}
 use Rattle.std.proofs.lemmas.List.Sums.{sum_by-append}
 use Rattle.mr_types.specs.declared.row.Change.{Change}
 use Rattle.mr_spec.specs.declared.world.Table.{Table}

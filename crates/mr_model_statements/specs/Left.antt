@@ -1,6 +1,6 @@
 -- What becomes of what a writing statement leaves.
 use Rattle.std.specs.Prelude.{ℕ, nat_lt, ◌==◌, if◌then◌else◌, List, ◌++◌, Result, Ok, Err}
-use Rattle.mr_types.specs.Refusals.{◌>>=◌, ◌>>◌, refuse_where}
+use Rattle.mr_types.specs.Refusals.{◌>>◌, refuse_where}
 use Rattle.mr_spec.specs.declared.progress.Refusal.{Refusal}
 use Rattle.mr_spec.specs.Database.{replay}
 use Rattle.mr_spec.specs.Outcome.{Outcome, refused, done}

@@ -1,6 +1,5 @@
 -- A table that a statement on rows opens.
 use Rattle.std.specs.Prelude.{◌≡◌, ℕ, List, [], Result, Ok, Err}
-use Rattle.mr_base.specs.declared.stop.Memory.{Memory as NoMemory}
 use Rattle.mr_types.specs.declared.definition.TableDef.{TableDef}
 use Rattle.mr_types.specs.declared.refused.Refused.{Refused}
 use Rattle.mr_types.specs.declared.refused.Refused.TheVariants.{Memory, Sql}

@@ -179,7 +179,9 @@ pub fn release(alloc: Global, engine: &mut Engine, name: &[u8]) -> Result<Reply,
     };
     savepoint_of(alloc, txn, name)?;
     let left = before_savepoint(alloc, name, txn)?;
-    engine.set_txn(Some(left));
+    let view = engine.view.take();
+    engine.here.txn = Some(left);
+    engine.view = view;
     Ok(Reply::Ok(0))
 }
 
