@@ -45,11 +45,11 @@ checked {B} {b} {all} {rest} {y} f e r = record { reads = λ ts s. rw e (r.reads
 
 -- ---- keywords
 
-same-itself : (a : List ℕ) → pointwise nat_eq a a ≡ true
+pub same-itself : (a : List ℕ) → pointwise nat_eq a a ≡ true
 same-itself [] = refl
 same-itself (x ∷ xs) = grind (arith, same-itself xs)
 
-equal-where-same : (a b : List ℕ) → pointwise nat_eq a b ≡ true → a ≡ b
+pub equal-where-same : (a b : List ℕ) → pointwise nat_eq a b ≡ true → a ≡ b
 equal-where-same [] [] e = refl
 equal-where-same [] (y ∷ ys) e = cc
 equal-where-same (x ∷ xs) [] e = cc
@@ -59,7 +59,7 @@ equal-where-same (x ∷ xs) (y ∷ ys) e = grind (arith, equal-where-same xs ys)
 abbrev never_names : List (List ℕ)
 never_names = codes "primary" ∷ codes "unique" ∷ codes "key" ∷ codes "index" ∷ codes "if" ∷ codes "default" ∷ codes "not" ∷ []
 
-abbrev is_listed : List (List ℕ) → List ℕ → Bool
+abbrev pub is_listed : List (List ℕ) → List ℕ → Bool
 is_listed [] word = false
 is_listed (w ∷ ws) word = pointwise nat_eq w word || is_listed ws word
 
