@@ -1,20 +1,20 @@
 -- Each part's bytes are one token, and spell it.
-use Rattle.std.proofs.Common.{◌≡◌, ℕ, zero, suc, ◌+◌, ◌-◌, ◌*◌, ◌/◌, ◌%◌, ◌^◌, ◌≤◌, ◌<◌, List, [], ◌∷◌, ◌++◌, length, take, drop, map, Bool, true, false, true≢false, not, ◌&&◌, ◌||◌, ◌==◌, nat_eq, nat_lt, nat_le, if◌then◌else◌, Option, Some, None, codes, arith, refl, ap, sym, subst, ◌∙◌, inl, inr, ◌⊎◌, lit<}
+use Rattle.std.proofs.Common.{◌≡◌, ℕ, suc, ◌+◌, ◌-◌, ◌*◌, ◌/◌, ◌%◌, ◌^◌, ◌≤◌, ◌<◌, List, [], ◌∷◌, ◌++◌, length, take, drop, map, Bool, true, false, true≢false, not, ◌&&◌, ◌||◌, ◌==◌, nat_eq, nat_lt, nat_le, if◌then◌else◌, Option, Some, None, codes, arith, refl, ap, sym, subst, ◌∙◌, inl, inr, ◌⊎◌, lit<}
 use Rattle.std.specs.List.{list_all, prefix_len}
 use Rattle.std.specs.Option.{option_map}
 use Rattle.std.specs.Cmp.Lexicographic.{pointwise}
 use Rattle.std.specs.Int.Digits.{number_from_digits_after}
 use Rattle.std.specs.Fmt.{decimal}
-use Rattle.std.proofs.lemmas.Bool.{eqb-true, leb-true, le-leb, ltb-true, lt-ltb}
+use Rattle.std.proofs.lemmas.Bool.{eqb-true, leb-true, le-leb, ltb-true}
 use Rattle.std.proofs.lemmas.Bool.Decides.{nat_tests}
 use Rattle.std.proofs.lemmas.Fmt.{decimal_by_steps_wide}
 use Rattle.mr_lanes.specs.Kernels.{is_low}
 use Rattle.mr_lex.specs.Bytes.{is_space, is_letter, is_digit, is_word_byte, is_hex_digit, is_within, starts}
 use Rattle.mr_lex.specs.Blank.{is_space_or_end, blank_front}
 use Rattle.mr_lex.specs.Quoted.{closes, closes_pairs, name_count}
-use Rattle.mr_lex.specs.Tokens.{lowered, is_same_word, word_of, behind_word, number_of, is_lone_sign, is_double_sign, first_token}
+use Rattle.mr_lex.specs.Tokens.{is_same_word, number_of, is_lone_sign, is_double_sign}
 use Rattle.mr_lex.specs.Fronts.{quoted_end, pairs_end, pairs_front, completed, word_or, word_front, digits_front, begins_hex, if_so, name_if, sign_front, front_of}
-use Rattle.mr_lex.specs.Reading.{Piece, Lexed, lexed, piece_by, piece_of}
+use Rattle.mr_lex.specs.Reading.{Lexed, lexed, piece_by, piece_of}
 use Rattle.mr_lex.specs.declared.token.TokenKind.{TokenKind}
 use Rattle.mr_lex.specs.declared.token.TokenKind.TheVariants as kinds
 use Rattle.mr_lex.proofs.Lists.{tells}
@@ -83,7 +83,7 @@ quote-ends : (quote : ℕ) (escapes : Bool) (least most : ℕ) (body rest : List
 quote-ends quote escapes least most body rest h k = at-is (1 + length body) (quoted_end quote escapes least most 1 (body ++ rest))
     (sym (quoted_at quote escapes least most 1 (length body) (body ++ rest) (joined-length body rest))
     ∙ both-true (closes quote escapes least most (take (length body) (body ++ rest))) (not (starts (λ b. b == quote) (drop (length body) (body ++ rest))))
-      (ap (closes quote escapes least most) (taken body rest) ∙ h) (ap (λ t. not (starts (λ b. b == quote) t)) (dropped body rest) ∙ ap not k))
+    (ap (closes quote escapes least most) (taken body rest) ∙ h) (ap (λ t. not (starts (λ b. b == quote) t)) (dropped body rest) ∙ ap not k))
 
 -- ---- names
 
@@ -389,7 +389,7 @@ digits-front b bs rest all small h =
     ∙ ap (λ t. if_so (nat_le (number_of t) (2 ^ 127 - 1) && not (starts is_word_byte (drop (length (b ∷ bs)) ((b ∷ bs) ++ rest)))) kinds.Number (length (b ∷ bs))) (taken (b ∷ bs) rest)
     ∙ ap (λ t. if_so (nat_le (number_of (b ∷ bs)) (2 ^ 127 - 1) && not (starts is_word_byte t)) kinds.Number (length (b ∷ bs))) (dropped (b ∷ bs) rest)
     ∙ ap (λ t. if_so t kinds.Number (length (b ∷ bs))) (both-true (nat_le (number_of (b ∷ bs)) (2 ^ 127 - 1)) (not (starts is_word_byte rest))
-      (le-leb (number_of (b ∷ bs)) (2 ^ 127 - 1) (omega (arith, number-same 0 (b ∷ bs), small))) (ap not (no-start is_word_byte rest space-word h))))
+    (le-leb (number_of (b ∷ bs)) (2 ^ 127 - 1) (omega (arith, number-same 0 (b ∷ bs), small))) (ap not (no-start is_word_byte rest space-word h))))
 
 by-digit : (b : ℕ) (bs : List ℕ) → is_digit b ≡ true → front_of (b ∷ bs) ≡ digits_front (b ∷ bs)
 by-digit b bs h = rw (digit-letter b h, h) refl

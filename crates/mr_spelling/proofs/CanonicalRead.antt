@@ -1,11 +1,11 @@
 -- Each statement is read from a text of its own.
-use Rattle.std.proofs.Common.{◌≡◌, ℕ, List, [], ◌∷◌, map, Bool, true, ◌&&◌, Some, refl}
+use Rattle.std.proofs.Common.{◌≡◌, List, [], ◌∷◌, map, true, Some, refl}
 use Rattle.std.specs.List.{list_all}
 use Rattle.mr_types.specs.declared.statement.Statement.{Statement}
 use Rattle.mr_spec.specs.Grammar.{statement_of}
 use Rattle.mr_spelling.specs.Parts.{Part}
 use Rattle.mr_spelling.specs.Statements.{IsSpellable, spelled_statement}
-use Rattle.mr_spelling.specs.Texts.{Written, are_gaps, is_spaced, Write}
+use Rattle.mr_spelling.specs.Texts.{are_gaps, is_spaced, Write}
 use Rattle.mr_spelling.specs.Canonical.{written, text_of_statement, has_plain_engine}
 use Rattle.mr_spelling.proofs.Lists.{both-true, first_of_both, second_of_both}
 use Rattle.mr_spelling.proofs.Alone.{is_writable, part-alone, part-token}

@@ -1,10 +1,10 @@
 -- Each part of a statement's spelling has bytes of its own.
-use Rattle.std.proofs.Common.{◌≡◌, ℕ, zero, suc, pos, negsuc, ◌+◌, ◌-◌, ◌^◌, ◌≤◌, List, [], ◌∷◌, ◌++◌, length, map, Bool, true, false, true≢false, not, ◌&&◌, nat_lt, nat_le, if◌then◌else◌, Option, Some, None, codes, arith, refl, ap, sym, subst, ◌∙◌}
+use Rattle.std.proofs.Common.{◌≡◌, ℕ, suc, pos, negsuc, ◌-◌, ◌^◌, List, [], ◌∷◌, ◌++◌, length, map, Bool, true, false, true≢false, not, ◌&&◌, nat_lt, nat_le, if◌then◌else◌, Option, Some, None, codes, arith, refl, sym, subst, ◌∙◌}
 use Rattle.std.specs.List.{list_all}
 use Rattle.std.proofs.lemmas.Bool.{le-leb, ltb-true, leb-true}
 use Rattle.mr_pieces.specs.declared.collation.Collation.{Collation}
 use Rattle.mr_pieces.specs.declared.collation.Collation.TheVariants.{Bin, Ci}
-use Rattle.mr_types.specs.Grammatical.{is_name, is_ascii_text, is_literal, is_condition, layer_is_grammatical, two_or_more, is_kind_text, is_column_text, is_key_name, is_key_text, is_secondary_text, is_table_text, is_item, is_insert, is_factor, is_term, is_set_to, is_set, is_aggregate, is_list, is_index_name, is_ordered_well, is_select, is_key_of_table, is_empty, is_statement, some_all, where_given}
+use Rattle.mr_types.specs.Grammatical.{is_name, is_ascii_text, is_literal, is_condition, layer_is_grammatical, is_kind_text, is_column_text, is_key_name, is_key_text, is_secondary_text, is_table_text, is_item, is_insert, is_factor, is_term, is_set_to, is_set, is_aggregate, is_list, is_index_name, is_ordered_well, is_select, is_key_of_table, is_empty, is_statement, some_all, where_given}
 use Rattle.mr_types.specs.declared.value.Value.{Value}
 use Rattle.mr_types.specs.declared.value.Value.TheVariants as values
 use Rattle.mr_types.specs.declared.kind.KindText.{KindText}
@@ -38,13 +38,13 @@ use Rattle.mr_types.specs.declared.statement.Select.{Select}
 use Rattle.mr_types.specs.declared.statement.Statement.{Statement}
 use Rattle.mr_types.specs.declared.statement.Statement.TheVariants as statements
 use Rattle.mr_spec.specs.Literals.{greatest}
-use Rattle.mr_spelling.specs.Parts.{Part, Keyword, Mark, Name, Count, Quoted, Octets, Plain}
+use Rattle.mr_spelling.specs.Parts.{Part, Keyword, Mark, Name, Count}
 use Rattle.mr_spelling.specs.Spelling.{spelled_by, spelled_list, spelled_if, spelled_name, spelled_names, spelled_literal}
-use Rattle.mr_spelling.specs.Sessions.{spelled_comment, spelled_index_on, spelled_unique, spelled_new_index, spelled_if_exists, spelled_begin, spelled_lock}
+use Rattle.mr_spelling.specs.Sessions.{spelled_comment, spelled_index_on, spelled_unique, spelled_new_index, spelled_lock}
 use Rattle.mr_spelling.specs.Rows.{spelled_item, spelled_tuple, spelled_insert, spelled_factor, spelled_product, sign_of, spelled_sum, spelled_to, spelled_set}
-use Rattle.mr_spelling.specs.Conditions.{comparison_sign, Way, Ways, flat, under_not, enclosed, anywhere, joined, spelled_between, spelled_in, compared, all_joined, any_joined, layer_ways, ways, spelled_condition, spelled_where}
-use Rattle.mr_spelling.specs.Selects.{spelled_aggregate, spelled_columns, spelled_index, spelled_forced, direction, spelled_order_item, spelled_order, spelled_limit, spelled_select, is_limited}
-use Rattle.mr_spelling.specs.Tables.{spelled_kind, spelled_nullable, spelled_default, collation_word, collation_of, spelled_collation, spelled_column, spelled_key_words, spelled_key, TableItem, OfColumn, OfKey, spelled_table_item, items_of, spelled_engine, spelled_if_not_exists, spelled_create_table}
+use Rattle.mr_spelling.specs.Conditions.{comparison_sign, Way, Ways, under_not, anywhere, joined, spelled_between, spelled_in, compared, all_joined, any_joined, layer_ways, ways, spelled_where}
+use Rattle.mr_spelling.specs.Selects.{spelled_aggregate, spelled_columns, spelled_forced, direction, spelled_order_item, spelled_order, spelled_limit, spelled_select, is_limited}
+use Rattle.mr_spelling.specs.Tables.{spelled_kind, spelled_nullable, spelled_default, collation_of, spelled_collation, spelled_column, spelled_key_words, spelled_key, TableItem, OfColumn, OfKey, spelled_table_item, items_of, spelled_engine, spelled_if_not_exists, spelled_create_table}
 use Rattle.mr_spelling.specs.Statements.{spelled_statement, is_nested, is_bounded}
 use Rattle.mr_spelling.specs.Canonical.{is_plain_word, has_plain_engine}
 use Rattle.mr_spelling.proofs.Lists.{Each, each-of, first_of_both, second_of_both, both-true}
@@ -192,7 +192,7 @@ create_table-writable text mild engine k w =
     let about-is : AreWritable (spelled_comment text.comment []) = comment-keeps text.comment (second_of_both (not (is_empty text.columns && is_empty text.keys)) _ k3) [] refl in
     let options-are : AreWritable (spelled_engine engine (spelled_comment text.comment [])) = engine-keeps engine w about about-is in
     let items-are : AreWritable (spelled_list spelled_table_item (items_of text) (Mark (codes ")") ∷ spelled_engine engine (spelled_comment text.comment []))) =
-        by-list (Mark (codes ",")) spelled_table_item (items_of text) refl (item-keeps-columns text.columns (map OfKey text.keys) (first_of_both columns _ k1) (item-keeps-keys text.keys (first_of_both keys _ k2))) (Mark (codes ")") ∷ options) options-are in
+    by-list (Mark (codes ",")) spelled_table_item (items_of text) refl (item-keeps-columns text.columns (map OfKey text.keys) (first_of_both columns _ k1) (item-keeps-keys text.keys (first_of_both keys _ k2))) (Mark (codes ")") ∷ options) options-are in
     mild-keeps mild (Name text.name ∷ Mark (codes "(") ∷ spelled_list spelled_table_item (items_of text) (Mark (codes ")") ∷ options))
     (name-keeps text.name (first_of_both (is_name text.name) _ k) (Mark (codes "(") ∷ spelled_list spelled_table_item (items_of text) (Mark (codes ")") ∷ options)) items-are)
 
@@ -214,7 +214,7 @@ insert-writable i k =
     let k1 : (where_given (some_all is_name) i.columns && some_all (some_all is_item) i.rows) ≡ true = second_of_both (is_name i.table) _ k in
     let rows = Keyword (codes "values") ∷ spelled_list spelled_tuple i.rows [] in
     let rows-are : AreWritable (Keyword (codes "values") ∷ spelled_list spelled_tuple i.rows []) =
-        by-list (Mark (codes ",")) spelled_tuple i.rows refl (some-each (Keeps spelled_tuple) (some_all is_item) tuple-keeps i.rows (second_of_both (where_given (some_all is_name) i.columns) _ k1)) [] refl in
+    by-list (Mark (codes ",")) spelled_tuple i.rows refl (some-each (Keeps spelled_tuple) (some_all is_item) tuple-keeps i.rows (second_of_both (where_given (some_all is_name) i.columns) _ k1)) [] refl in
     name-keeps i.table (first_of_both (is_name i.table) _ k) (spelled_if spelled_names i.columns rows) (column_names-keep i.columns (first_of_both (where_given (some_all is_name) i.columns) _ k1) rows rows-are)
 
 factor-keeps : (f : Factor) → is_factor f ≡ true → Keeps spelled_factor f
@@ -295,7 +295,7 @@ of-layer x f k = subst AllKept (sym (fold-roll-Expr Ways layer_ways x)) (f (sym 
 layer-written : (y : Expr-F ((x : Expr) × Written_of x)) → Written_of (roll-Expr (map-Expr ((x : Expr) × Written_of x) Expr (λ p. p.0) y))
 layer-written (Compare n c v) = of-layer (Compare n c v) (λ k.
     let i : Kept (compared n c v) = λ more h. name-keeps n (first_of_both (is_name n) (is_literal v) k) (Mark (comparison_sign c) ∷ spelled_literal v more)
-        (both-true (is_writable (Mark (comparison_sign c))) (list_all is_writable (spelled_literal v more)) (sign-of-comparison c) (literal-keeps v (second_of_both (is_name n) (is_literal v) k) more h)) in
+    (both-true (is_writable (Mark (comparison_sign c))) (list_all is_writable (spelled_literal v more)) (sign-of-comparison c) (literal-keeps v (second_of_both (is_name n) (is_literal v) k) more h)) in
     kept-anywhere (compared n c v) (under_not (compared n c v)) i i)
 layer-written (IsNull n) = of-layer (IsNull n) (λ k. kept-anywhere _ _ (λ more h. name-keeps n k (Keyword (codes "is") ∷ Keyword (codes "null") ∷ more) h) (λ more h. name-keeps n k (Keyword (codes "is") ∷ Keyword (codes "not") ∷ Keyword (codes "null") ∷ more) h))
 layer-written (Between n a b) = of-layer (Between n a b) (λ k.

@@ -1,10 +1,8 @@
 -- One text for each statement: keywords in small letters, names in backticks, numbers in decimal, texts in single quotes, bytes
 -- in pairs of digits, and a blank between two tokens.
-use Rattle.std.specs.Prelude.{◌≡◌, ℕ, ◌+◌, ◌/◌, ◌%◌, ◌^◌, Bool, true, false, not, ◌&&◌, ◌||◌, ◌==◌, nat_lt, if◌then◌else◌, List, [], ◌∷◌, ◌++◌, map, codes}
-use Rattle.std.specs.List.{list_all, list_any}
-use Rattle.std.specs.Cmp.Lexicographic.{pointwise}
+use Rattle.std.specs.Prelude.{ℕ, ◌+◌, ◌/◌, ◌%◌, Bool, true, false, not, ◌&&◌, ◌||◌, ◌==◌, nat_lt, if◌then◌else◌, List, [], ◌∷◌, map, codes}
+use Rattle.std.specs.List.{list_all}
 use Rattle.std.specs.Fmt.{decimal}
-use Rattle.std.specs.Prelude.{nat_eq}
 use Rattle.mr_lex.specs.Bytes.{is_letter, is_word_byte}
 use Rattle.mr_lex.specs.Tokens.{is_same_word}
 use Rattle.mr_lex.specs.declared.token.TokenKind.{TokenKind}
