@@ -1,5 +1,5 @@
 -- One text for each statement: keywords in small letters, names in backticks, numbers in decimal, texts in single quotes, bytes
--- in pairs of digits, and a blank between two tokens.
+-- in pairs of digits, and a blank in front of each token.
 use Rattle.std.specs.Prelude.{ℕ, ◌+◌, ◌/◌, ◌%◌, Bool, true, false, not, ◌&&◌, ◌||◌, ◌==◌, nat_lt, if◌then◌else◌, List, [], ◌∷◌, map, codes}
 use Rattle.std.specs.List.{list_all}
 use Rattle.std.specs.Fmt.{decimal}
