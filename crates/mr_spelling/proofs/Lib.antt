@@ -8,3 +8,6 @@ pub mod SelectsRead
 pub mod TablesRead
 pub mod StatementsRead
 pub mod TextsRead
+pub mod Alone
+pub mod Writable
+pub mod CanonicalRead

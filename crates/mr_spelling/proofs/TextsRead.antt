@@ -1,18 +1,18 @@
 -- Statements are read from texts.
-use Rattle.std.proofs.Common.{◌≡◌, ℕ, zero, suc, pred, ◌+◌, ◌-◌, ◌≤◌, ◌<◌, List, [], ◌∷◌, ◌++◌, length, take, drop, Bool, true, false, true≢false, not, ◌&&◌, Option, Some, None, arith, refl, ap, sym, subst, ◌∙◌}
+use Rattle.std.proofs.Common.{◌≡◌, ℕ, suc, ◌+◌, List, [], ◌∷◌, ◌++◌, length, take, drop, true, true≢false, not, ◌&&◌, Option, Some, None, arith, refl, ap, sym, subst, ◌∙◌}
 use Rattle.std.specs.List.{list_all}
 use Rattle.std.specs.Option.{option_map}
 use Rattle.mr_lex.specs.Bytes.{is_space, is_empty}
-use Rattle.mr_lex.specs.Blank.{blank_front, is_space_or_end}
-use Rattle.mr_lex.specs.Reading.{Lexeme, Lexemes, Piece, Lexed, piece_of, piece_length, with_first, with_piece, tokens_from, tokens_of}
+use Rattle.mr_lex.specs.Blank.{is_space_or_end}
+use Rattle.mr_lex.specs.Reading.{Lexeme, Lexemes, Lexed, with_first, tokens_from, tokens_of}
 use Rattle.mr_lex.specs.declared.token.TokenKind.{TokenKind}
 use Rattle.mr_lex.proofs.Reading.{skipped, by_piece, blank_step}
 use Rattle.mr_types.specs.declared.statement.Statement.{Statement}
-use Rattle.mr_spec.specs.Grammar.{whole_statement, spelled_by, spelled, statement_of}
-use Rattle.mr_spelling.specs.Parts.{Part, IsPart, IsToken, Spell}
+use Rattle.mr_spec.specs.Grammar.{whole_statement, spelled_by, statement_of}
+use Rattle.mr_spelling.specs.Parts.{Part, IsToken, Spell}
 use Rattle.mr_spelling.specs.Statements.{IsSpellable, spelled_statement}
 use Rattle.mr_spelling.specs.Texts.{IsAlone, Written, text_of, are_gaps, is_spaced, Write}
-use Rattle.mr_spelling.proofs.Lists.{first_of_both, second_of_both, both-true}
+use Rattle.mr_spelling.proofs.Lists.{first_of_both, second_of_both}
 use Rattle.mr_spelling.proofs.StatementsRead.{spelling-read}
 
 -- white space in front is passed over
@@ -42,8 +42,8 @@ past-token at kind (b ∷ bs) rest i h =
     by_piece at b (bs ++ rest) (Lexed kind (suc (length bs))) (i.alone rest h)
     ∙ ap (λ bytes. with_first (record { kind = kind; bytes = bytes; start = at; end = at + suc (length bs) }) (tokens_from (at + 1) (length bs) (bs ++ rest))) (taken (b ∷ bs) rest)
     ∙ ap (with_first (record { kind = kind; bytes = b ∷ bs; start = at; end = at + suc (length bs) }))
-      (skipped (at + 1) (length bs) (bs ++ rest) ∙ ap (λ n. tokens_from n 0 (drop (length bs) (bs ++ rest))) (let e : at + 1 + length bs ≡ at + suc (length bs) = omega arith in e)
-      ∙ ap (tokens_from (at + suc (length bs)) 0) (dropped bs rest))
+    (skipped (at + 1) (length bs) (bs ++ rest) ∙ ap (λ n. tokens_from n 0 (drop (length bs) (bs ++ rest))) (let e : at + 1 + length bs ≡ at + suc (length bs) = omega arith in e)
+    ∙ ap (tokens_from (at + suc (length bs)) 0) (dropped bs rest))
 
 -- the tokens spell the parts, and none is bad
 pub record IsLexed (tokens : Lexemes) (parts : List Part) : Type 0 where

@@ -7,3 +7,4 @@ pub mod Selects
 pub mod Tables
 pub mod Statements
 pub mod Texts
+pub mod Canonical

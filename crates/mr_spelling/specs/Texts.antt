@@ -1,5 +1,5 @@
 -- Texts: tokens with white space between them.
-use Rattle.std.specs.Prelude.{◌≡◌, ℕ, ◌≤◌, Bool, true, false, not, ◌&&◌, List, [], ◌∷◌, ◌++◌, length}
+use Rattle.std.specs.Prelude.{◌≡◌, ℕ, ◌≤◌, Bool, true, not, ◌&&◌, List, [], ◌∷◌, ◌++◌, length}
 use Rattle.std.specs.List.{list_all}
 use Rattle.mr_lex.specs.Bytes.{is_space, is_empty}
 use Rattle.mr_lex.specs.Blank.{is_space_or_end}

@@ -4,5 +4,5 @@
 mod texts;
 mod tokens;
 
-pub use texts::texts_are_read;
+pub use texts::{each_statement_has_a_text, texts_are_read};
 pub use tokens::spellings_are_read;
