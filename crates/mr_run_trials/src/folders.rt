@@ -79,11 +79,11 @@ fn the_log_is_as_in_the_format(rt: HostRuntime) -> Result<(), Fail> {
     Ok(())
 }
 
-/// Logs that are damaged, each with the first offending place: a gate with no whole record behind it, a body that is no commit, no gate
+/// Logs that are damaged, each with the first offending place: a gate with no whole record behind it, a body with a kind that is none, no gate
 /// behind the last record, a table whose name is taken, a row without its table, a row whose key is there, and a moment that falls.
 const DAMAGED: &str = "\
 167 1 2 3|0
-167 0 0 0 1 255 0|0
+167 0 0 0 9 0 0 0 0 0 0 0 7 9 0|13
 table row|42
 table table 0|42
 row 0|0

@@ -24,7 +24,7 @@ pub(crate) struct Ended {
 }
 
 /// An ending without a stop.
-pub(crate) fn ended(status: u8, taken: usize, statements: u64) -> Ended {
+pub(crate) fn without_stop(status: u8, taken: usize, statements: u64) -> Ended {
     Ended {
         status,
         report: Report {

@@ -1,7 +1,7 @@
 //! Scripts that are served to their end.
 
 use crate::rows::ROWS;
-use crate::running::{AT_SEVEN, CHOICES, Ended, crash, ended, lines_of, run_line};
+use crate::running::{AT_SEVEN, CHOICES, Ended, crash, without_stop, lines_of, run_line};
 use mr_base::Memory;
 use mr_memhost::{Choice, ListClock, MemHost, MemSource};
 use std::alloc::{AllocError, Global};
@@ -30,7 +30,7 @@ fn ending_of(script: &str, replies: &str) -> Ended {
             statements += 1;
         }
     }
-    ended(status, script.len(), statements)
+    without_stop(status, script.len(), statements)
 }
 
 /// Serves a script that comes in pieces of so many bytes. With no values of the clock the moment is 7.

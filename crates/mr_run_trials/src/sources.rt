@@ -1,6 +1,6 @@
 //! Sources that fail or have no end, and an output that fails.
 
-use crate::running::{AT_SEVEN, CHOICES, Ended, crash, ended, gives, run_line, serve};
+use crate::running::{AT_SEVEN, CHOICES, Ended, crash, without_stop, gives, run_line, serve};
 use mr_base::{Memory, Source, SourceFault};
 use mr_memhost::{Choice, ListClock, MemHost, MemSource};
 use std::alloc::Global;
@@ -19,8 +19,8 @@ fn run_failing(alloc: Global, piece: usize) -> Result<(Ended, usize), Memory> {
 
 #[test]
 fn a_source_that_fails(rt: HostRuntime) -> Result<(), Fail> {
-    assert_eq!(rt; run_failing(rt.alloc(), 10), Ok((ended(4, 10, 0), 0)));
-    assert_eq!(rt; run_failing(rt.alloc(), 4096), Ok((ended(4, 64, 1), 5)));
+    assert_eq!(rt; run_failing(rt.alloc(), 10), Ok((without_stop(4, 10, 0), 0)));
+    assert_eq!(rt; run_failing(rt.alloc(), 4096), Ok((without_stop(4, 64, 1), 5)));
     Ok(())
 }
 
@@ -50,7 +50,7 @@ fn run_endless(alloc: Global) -> Result<Ended, Memory> {
 
 #[test]
 fn a_source_without_an_end(rt: HostRuntime) -> Result<(), Fail> {
-    assert_eq!(rt; run_endless(rt.alloc()), Ok(ended(8, 1_073_741_825, 0)));
+    assert_eq!(rt; run_endless(rt.alloc()), Ok(without_stop(8, 1_073_741_825, 0)));
     Ok(())
 }
 
@@ -77,7 +77,7 @@ fn run_unheard(alloc: Global, choice: Choice) -> Result<Option<Ended>, Memory> {
 #[test]
 fn an_output_that_fails(rt: HostRuntime) -> Result<(), Fail> {
     for choice in CHOICES {
-        let unheard = ended(6, 64, 0);
+        let unheard = without_stop(6, 64, 0);
         assert_eq!(rt; run_unheard(rt.alloc(), choice), Ok(Some(unheard)), "{choice:?}");
     }
     Ok(())

@@ -1,6 +1,6 @@
 //! Words, and the moment that they give.
 
-use crate::running::{Ended, ended, run_line};
+use crate::running::{Ended, without_stop, run_line};
 use mr_base::Memory;
 use mr_memhost::{ListClock, MemHost, MemSource};
 use std::alloc::Global;
@@ -35,7 +35,7 @@ fn run_words(alloc: Global, line: &str) -> Result<(Ended, u64, usize), Memory> {
 #[test]
 fn words_out_of_form_touch_nothing(rt: HostRuntime) -> Result<(), Fail> {
     for line in OUT_OF_FORM.split('\n') {
-        let untouched = (ended(2, 0, 0), 0, SCRIPT.len());
+        let untouched = (without_stop(2, 0, 0), 0, SCRIPT.len());
         assert_eq!(rt; run_words(rt.alloc(), line), Ok(untouched), "{line}");
     }
     Ok(())
