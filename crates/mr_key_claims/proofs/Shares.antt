@@ -1,8 +1,9 @@
 -- Changes share a claim exactly where their lists have one in common.
-use Rattle.std.proofs.Common.{◌≡◌, ◌⊎◌, Bool, true, true≢false, List, [], ◌∷◌, refl, ap, sym, subst, ◌∙◌, inl, inr}
+use Rattle.std.proofs.Common.{◌≡◌, ◌⊎◌, Bool, true, true≢false, List, [], ◌∷◌, ◌++◌, ◌↔◌, refl, ap, sym, subst, ◌∙◌, inl, inr}
 use Rattle.std.specs.List.{list_any, flat_map}
 use Rattle.mr_types.specs.declared.definition.TableDef.{TableDef}
 use Rattle.mr_types.specs.declared.row.Change.{Change}
+use Rattle.mr_types.specs.declared.row.Change.TheVariants.{Insert, Update, Delete}
 use Rattle.mr_spec.specs.Claims.{share_claim, has_claim_in}
 use Rattle.mr_spec.specs.Rows.{clashes, rows_of}
 use Rattle.mr_key_claims.specs.Claim.{Claim, row_claims, claims_of, claims_of_all, IsClaimOf, HaveCommon}
@@ -35,10 +36,23 @@ in-flat f k (y ∷ xs) h = elim (in-append k (f y) (flat_map f xs) h) [ inl i �
 
 -- ---- changes
 
-pub share-by-claims : (def : TableDef) (c d : Change) → ShareByClaims def c d
-share-by-claims def c d = (there, back)
+-- the claims of the rows that a change names
+abbrev of-rows : TableDef → Change → List Claim
+of-rows def c = flat_map (row_claims def) (rows_of c)
+
+ends : (ks : List Claim) → ks ≡ ks ++ []
+ends [] = refl
+ends (k ∷ ks) = ap (λ l. k ∷ l) (ends ks)
+
+are-of-rows : (def : TableDef) (c : Change) → claims_of def c ≡ of-rows def c
+are-of-rows def (Insert table new) = ends (row_claims def new)
+are-of-rows def (Update table old new) = ap (λ l. row_claims def old ++ l) (ends (row_claims def new))
+are-of-rows def (Delete table old) = ends (row_claims def old)
+
+share-by-rows : (def : TableDef) (c d : Change) → (share_claim def c d ≡ true) ↔ HaveCommon (of-rows def c) (of-rows def d)
+share-by-rows def c d = (there, back)
   where
-    there : share_claim def c d ≡ true → HaveCommon (claims_of def c) (claims_of def d)
+    there : share_claim def c d ≡ true → HaveCommon (of-rows def c) (of-rows def d)
     there e =
         let p = any-some (λ r. list_any (λ s. clashes def r s) (rows_of d)) (rows_of c) e in
         let q = any-some (λ s. clashes def p.0 s) (rows_of d) p.2 in
@@ -49,11 +63,16 @@ share-by-claims def c d = (there, back)
           of_other = flat-in (row_claims def) h.claim q.0 (rows_of d) q.1 h.of_other;
         }
 
-    back : HaveCommon (claims_of def c) (claims_of def d) → share_claim def c d ≡ true
+    back : HaveCommon (of-rows def c) (of-rows def d) → share_claim def c d ≡ true
     back h =
         let p = in-flat (row_claims def) h.claim (rows_of c) h.of_one in
         let q = in-flat (row_claims def) h.claim (rows_of d) h.of_other in
         some-any (λ r. list_any (λ s. clashes def r s) (rows_of d)) p.0 (rows_of c) p.1 (some-any (λ s. clashes def p.0 s) q.0 (rows_of d) q.1 ((clash-by-claims def p.0 q.0).1 (record { claim = h.claim; of_one = p.2; of_other = q.2 })))
+
+pub share-by-claims : (def : TableDef) (c d : Change) → ShareByClaims def c d
+share-by-claims def c d =
+    subst (λ ks. (share_claim def c d ≡ true) ↔ HaveCommon ks (claims_of def d)) (sym (are-of-rows def c))
+    (subst (λ ls. (share_claim def c d ≡ true) ↔ HaveCommon (of-rows def c) ls) (sym (are-of-rows def d)) (share-by-rows def c d))
 
 pub held-by-claims : (def : TableDef) (others : List Change) (c : Change) → HeldByClaims def others c
 held-by-claims def others c = (there, back)

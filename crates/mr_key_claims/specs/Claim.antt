@@ -7,6 +7,7 @@ use Rattle.mr_types.specs.declared.definition.IndexDef.{IndexDef}
 use Rattle.mr_types.specs.declared.definition.TableDef.{TableDef}
 use Rattle.mr_types.specs.declared.kind.Kind.{Kind}
 use Rattle.mr_types.specs.declared.row.Change.{Change}
+use Rattle.mr_types.specs.declared.row.Change.TheVariants.{Insert, Update, Delete}
 use Rattle.mr_types.specs.declared.row.Commit.{Commit}
 use Rattle.mr_types.specs.declared.row.Row.{Row}
 use Rattle.mr_types.specs.declared.value.Value.{Value}
@@ -14,7 +15,7 @@ use Rattle.mr_types.specs.declared.value.Value.TheVariants.{Null, Number, Text, 
 use Rattle.mr_types.specs.Order.{collation_of}
 use Rattle.mr_types.specs.Values.{is_equal}
 use Rattle.mr_spec.specs.Database.{changes_in, on_table}
-use Rattle.mr_spec.specs.Rows.{kind_at, value_at, has_null, rows_of}
+use Rattle.mr_spec.specs.Rows.{kind_at, value_at, has_null}
 
 -- ---- values in one form
 
@@ -60,7 +61,9 @@ row_claims def row = primary_claim def row ∷ unique_claims def row 0 def.secon
 
 -- the claims of a change: those of its old and of its new row
 abbrev pub claims_of : TableDef → Change → List Claim
-claims_of def change = flat_map (row_claims def) (rows_of change)
+claims_of def (Insert table new) = row_claims def new
+claims_of def (Update table old new) = row_claims def old ++ row_claims def new
+claims_of def (Delete table old) = row_claims def old
 
 -- those of several changes
 abbrev pub claims_of_all : TableDef → List Change → List Claim

@@ -3,6 +3,7 @@
 use mr_pieces::{
     Collation, push_bytes, push_text, push_unpack, split_bytes, split_text, split_unpack,
 };
+use std::alloc::{AllocError, Global};
 use std::test::Fail;
 
 const BYTES: [(&[u8], &[u8]); 3] = [
@@ -62,33 +63,49 @@ const FORMS: [(u16, &[u8], Option<&[u8]>, Option<usize>); 6] = [
     (9, b"\x00\x07\x03", Some(b"\x00\x07\x03"), None),
 ];
 
+/// The unpack form at the front of these bytes, or how many bytes are left at the first offence; it stands beside the
+/// letters `AB`.
+fn form_of(width: u16, unpack: &[u8]) -> (Option<&[u8]>, Option<usize>) {
+    match split_text(Collation::Ci, b"AB      \x02") {
+        Ok((pieces, _)) => match split_unpack(Collation::Ci, width, pieces, unpack) {
+            Ok((front, _)) => (Some(front), None),
+            Err(left) => (None, Some(left)),
+        },
+        Err(_) => (None, None),
+    }
+}
+
 #[test]
 fn forms_beside_two_letters(rt: HostRuntime) -> Result<(), Fail> {
     for (width, unpack, form, left) in FORMS {
-        match split_text(Collation::Ci, b"AB      \x02") {
-            Ok((pieces, _)) => match split_unpack(Collation::Ci, width, pieces, unpack) {
-                Ok((front, _)) => assert_eq!(rt; Some(front), form),
-                Err(at) => assert_eq!(rt; Some(at), left),
-            },
-            Err(_) => assert!(rt; false),
-        }
+        assert_eq!(rt; form_of(width, unpack), (form, left));
     }
     Ok(())
+}
+
+/// Whether a text has these pieces and this unpack form.
+fn is_text(
+    alloc: Global,
+    collation: Collation,
+    text: &[u8],
+    pieces: &[u8],
+    unpack: &[u8],
+) -> Result<bool, AllocError> {
+    let mut out = Vec::new(alloc);
+    push_text(&mut out, collation, text)?;
+    let mut form = Vec::new(alloc);
+    if text.len() < 65536 {
+        push_unpack(&mut form, collation, text)?;
+    }
+    Ok(out.as_slice() == pieces && form.as_slice() == unpack)
 }
 
 #[test]
 fn pieces_of_texts(rt: HostRuntime) -> Result<(), Fail> {
     for (collation, text, pieces, unpack) in TEXTS {
-        let mut out = Vec::new(rt.alloc());
-        push_text(&mut out, collation, text)?;
-        assert_eq!(rt; out.as_slice(), pieces);
+        assert!(rt; is_text(rt.alloc(), collation, text, pieces, unpack)?);
         let cut = split_text(collation, pieces);
         assert_eq!(rt; cut.ok(), Some((pieces, b"".as_slice())));
-        let mut form = Vec::new(rt.alloc());
-        if text.len() < 65536 {
-            push_unpack(&mut form, collation, text)?;
-            assert_eq!(rt; form.as_slice(), unpack);
-        }
     }
     assert_eq!(rt;
         split_text(Collation::Bin, b"abcdefgh\x01i       \x02").err(),

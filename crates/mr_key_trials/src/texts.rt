@@ -1,8 +1,10 @@
 //! Texts that are taken apart and put together again.
 
+use mr_base::{Blob, Memory};
 use mr_pieces::{split_text, split_unpack};
 use mr_types::{Collation, Kind, Pieces};
 use mr_unpack::{make_unpack, restore};
+use std::alloc::Global;
 use std::test::Fail;
 
 const TEXTS: [(&str, Collation, &[u8], &[u8], &[u8]); 5] = [
@@ -43,22 +45,47 @@ const TEXTS: [(&str, Collation, &[u8], &[u8], &[u8]); 5] = [
     ),
 ];
 
+/// The text that a key's pieces and an unpack form give, None where one of them is malformed.
+fn restored(
+    alloc: Global,
+    collation: Collation,
+    key: &[u8],
+    form: &[u8],
+) -> Result<Option<Blob>, Memory> {
+    let Ok((pieces, _)) = split_text(collation, key) else {
+        return Ok(None);
+    };
+    match split_unpack(collation, 20, pieces, form) {
+        Ok((front, _)) => {
+            let kind = Kind::VarChar(20, collation);
+            Ok(Some(restore(alloc, Pieces::new(pieces, front, kind))?))
+        }
+        Err(_) => Ok(None),
+    }
+}
+
+/// Whether this is a text's unpack form, and the text comes back.
+fn comes_back(
+    alloc: Global,
+    collation: Collation,
+    text: &[u8],
+    key: &[u8],
+    form: &[u8],
+) -> Result<bool, Memory> {
+    let unpack = make_unpack(alloc, Kind::VarChar(20, collation), text)?;
+    match restored(alloc, collation, key, form)? {
+        Some(back) => Ok(unpack.as_slice() == form && back.as_slice() == text),
+        None => Ok(false),
+    }
+}
+
 #[test]
 fn texts_restored(rt: HostRuntime) -> Result<(), Fail> {
     for (name, collation, text, key, form) in TEXTS {
-        let kind = Kind::VarChar(20, collation);
-        let unpack = make_unpack(rt.alloc(), kind, text)?;
-        assert!(rt; unpack.as_slice() == form, "{name}");
-        if let Ok((pieces, _)) = split_text(collation, key) {
-            if let Ok((front, _)) = split_unpack(collation, 20, pieces, unpack.as_slice()) {
-                let back = restore(rt.alloc(), Pieces::new(pieces, front, kind))?;
-                assert!(rt; back.as_slice() == text, "{name}");
-            } else {
-                assert!(rt; false, "{name}");
-            }
-        } else {
-            assert!(rt; false, "{name}");
-        }
+        assert!(rt;
+            comes_back(rt.alloc(), collation, text, key, form)?,
+            "{name}"
+        );
     }
     assert_eq!(rt;
         make_unpack(rt.alloc(), Kind::VarBinary(9), b"Ab ")?.len(),

@@ -3,62 +3,13 @@
 ghost use Rattle.std.specs.Prelude.{◌≡◌, ◌∷◌, [], IfOk, pos, true, false};
 ghost use Rattle.mr_types.specs.declared.value.Value.TheVariants.{Number as ANumber, Text as AText};
 
+use crate::tables::{changed, names};
 use mr_base::{Blob, DefAnswer, Memory};
 use mr_entry::{covers, entries_of, row_of_entry};
-use mr_types::{Collation, ColumnDef, ColumnType, IndexDef, Kind, Row, TableDef, Value};
+use mr_types::{Row, Value};
 use sqlite_items::Items;
 use std::alloc::Global;
 use std::test::Fail;
-
-const BIG: Kind = Kind::BigInt;
-
-const NAME: Kind = Kind::VarChar(20, Collation::Ci);
-
-fn column_of(alloc: Global, kind: Kind, nullable: bool) -> Result<ColumnDef, Memory>
-    ensures { IfOk result (λ c. c ≡ record { name = []; ty = record { kind = kind; nullable = nullable }; default = None }) }
-{
-    Ok(ColumnDef {
-        name: Blob::from_slice(alloc, b"")?,
-        ty: ColumnType { kind, nullable },
-        default: None,
-    })
-}
-
-fn key_of(alloc: Global, places: &[u8]) -> Result<IndexDef, Memory> {
-    Ok(IndexDef {
-        name: Blob::from_slice(alloc, b"k")?,
-        columns: Blob::from_slice(alloc, places)?,
-        unique: false,
-        comment: Blob::from_slice(alloc, b"")?,
-    })
-}
-
-/// A number that is the primary key, and a text that may be NULL and has a key of its own.
-fn names(alloc: Global) -> Result<TableDef, Memory>
-    ensures columns { IfOk result (λ def. def.columns ≡ record { name = []; ty = record { kind = BIG; nullable = false }; default = None } ∷ record { name = []; ty = record { kind = NAME; nullable = true }; default = None } ∷ []) }
-    ensures key { IfOk result (λ def. def.primary.columns ≡ 0 ∷ []) }
-    ensures no_ttl { IfOk result (λ def. def.ttl ≡ None) }
-{
-    let mut columns = Items::new(alloc);
-    columns.push(column_of(alloc, BIG, false)?)?;
-    columns.push(column_of(alloc, NAME, true)?)?;
-    let mut secondary = Items::new(alloc);
-    secondary.push(key_of(alloc, b"\x01")?)?;
-    let primary = IndexDef {
-        name: Blob::from_slice(alloc, b"")?,
-        columns: Blob::from_slice(alloc, b"\x00")?,
-        unique: true,
-        comment: Blob::from_slice(alloc, b"")?,
-    };
-    Ok(TableDef::new(
-        Blob::from_slice(alloc, b"u")?,
-        columns,
-        primary,
-        secondary,
-        Blob::from_slice(alloc, b"")?,
-        None,
-    ))
-}
 
 /// The row of 3 and `Ab `.
 fn three_and_ab(alloc: Global) -> Result<Row, Memory>
@@ -89,23 +40,32 @@ fn is_three_and_ab(row: &Row) -> bool {
     }
 }
 
+/// The entry of the row in the primary key.
+const PRIMARY_KEY: &[u8] = b"\x00\x00\x01\x00\x80\x00\x00\x00\x00\x00\x00\x03";
+
+const PRIMARY_VALUE: &[u8] = b"\x00\x00\x03Ab ";
+
+/// Whether the row has this entry in a key.
+fn is_entry(alloc: Global, index: usize, key: &[u8], value: &[u8]) -> Result<bool, Memory> {
+    let def = names(alloc)?;
+    let row = three_and_ab(alloc)?;
+    let (found, behind) = entries_of(alloc, &def, &NUMBERS, &row, index)?;
+    Ok(found.as_slice() == key && behind.as_slice() == value)
+}
+
+/// Whether the row is read from an entry.
+fn is_row(alloc: Global, index: usize, key: &[u8], value: &[u8]) -> Result<bool, DefAnswer> {
+    let def = names(alloc)?;
+    let row = row_of_entry(alloc, &def, index, key, value)?;
+    Ok(is_three_and_ab(&row))
+}
+
 #[test]
 fn secondary_entry_with_unpack_data(rt: HostRuntime) -> Result<(), Fail> {
-    let def = names(rt.alloc())?;
-    let row = three_and_ab(rt.alloc())?;
-    let (key, value) = entries_of(rt.alloc(), &def, &NUMBERS, &row, 1)?;
-    assert_eq!(rt; key.as_slice(), KEY);
-    assert_eq!(rt; value.as_slice(), VALUE);
-    let back = row_of_entry(rt.alloc(), &def, 1, key.as_slice(), value.as_slice())?;
-    assert!(rt; is_three_and_ab(&back));
-    let (key, value) = entries_of(rt.alloc(), &def, &NUMBERS, &row, 0)?;
-    assert_eq!(rt;
-        key.as_slice(),
-        b"\x00\x00\x01\x00\x80\x00\x00\x00\x00\x00\x00\x03".as_slice()
-    );
-    assert_eq!(rt; value.as_slice(), b"\x00\x00\x03Ab ".as_slice());
-    let back = row_of_entry(rt.alloc(), &def, 0, key.as_slice(), value.as_slice())?;
-    assert!(rt; is_three_and_ab(&back));
+    assert!(rt; is_entry(rt.alloc(), 1, KEY, VALUE)?);
+    assert!(rt; is_row(rt.alloc(), 1, KEY, VALUE)?);
+    assert!(rt; is_entry(rt.alloc(), 0, PRIMARY_KEY, PRIMARY_VALUE)?);
+    assert!(rt; is_row(rt.alloc(), 0, PRIMARY_KEY, PRIMARY_VALUE)?);
     Ok(())
 }
 
@@ -140,14 +100,6 @@ const CHANGES: &[u8] = b"\
     \x15\x23\xff\x15\x83\xff\x16\x01\x16\x16\x20\x16\x16\x80\x16\x17\x02\xff\x17\x21\x16\x17\x81\x16\
     \x18\x03\xff\x18\x22\x18\x18\x82\x18";
 
-fn changed(alloc: Global, bytes: &[u8], at: usize, byte: u8) -> Result<Blob, Memory> {
-    let mut copy = Blob::from_slice(alloc, bytes)?.into_vec();
-    if at < copy.len() {
-        copy[at] = byte;
-    }
-    Ok(Blob::from_vec(copy))
-}
-
 fn offence(read: Result<Row, DefAnswer>) -> u64 {
     match read {
         Ok(_) => 255,
@@ -156,21 +108,29 @@ fn offence(read: Result<Row, DefAnswer>) -> u64 {
     }
 }
 
+/// Where an entry of the secondary key offends.
+fn offence_in(alloc: Global, key: &[u8], value: &[u8]) -> Result<u64, Memory> {
+    let def = names(alloc)?;
+    Ok(offence(row_of_entry(alloc, &def, 1, key, value)))
+}
+
+/// Where the row's entry offends with another byte at a place of its key and value.
+fn offence_of_change(alloc: Global, at: usize, byte: u8) -> Result<u64, Memory> {
+    if at < KEY.len() {
+        let key = changed(alloc, KEY, at, byte)?;
+        offence_in(alloc, key.as_slice(), VALUE)
+    } else {
+        let value = changed(alloc, VALUE, at - KEY.len(), byte)?;
+        offence_in(alloc, KEY, value.as_slice())
+    }
+}
+
 #[test]
 fn changed_entries(rt: HostRuntime) -> Result<(), Fail> {
-    let def = names(rt.alloc())?;
     for change in CHANGES.chunks(3) {
         if let [at, byte, wanted] = change {
-            let at = *at as usize;
-            let key = changed(rt.alloc(), KEY, at, *byte)?;
-            let value = changed(rt.alloc(), VALUE, at.saturating_sub(KEY.len()), *byte)?;
-            let value = if at < KEY.len() {
-                VALUE
-            } else {
-                value.as_slice()
-            };
-            let read = row_of_entry(rt.alloc(), &def, 1, key.as_slice(), value);
-            assert_eq!(rt; offence(read), *wanted as u64, "{at} is {byte}");
+            let found = offence_of_change(rt.alloc(), *at as usize, *byte)?;
+            assert_eq!(rt; found, *wanted as u64, "{at} is {byte}");
         }
     }
     Ok(())

@@ -7,3 +7,6 @@ pub mod Nexts
 pub mod Texts
 pub mod Feeding
 pub mod Taking
+pub mod Whole
+pub mod Concluding
+pub mod Wording

@@ -4,3 +4,6 @@ pub mod Holding
 pub mod Serving
 pub mod Reading
 pub mod Causes
+pub mod Words
+pub mod Headline
+pub mod Ended

@@ -5,3 +5,6 @@ mod clocks;
 mod part;
 mod script;
 mod shell;
+mod top_call;
+
+pub use top_call::{Report, run};

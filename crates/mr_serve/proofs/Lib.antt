@@ -3,3 +3,4 @@ pub mod Replied
 pub mod Early
 pub mod Running
 pub mod Stepping
+pub mod FewRead

@@ -3,7 +3,7 @@ use Rattle.std.specs.Prelude.{◌≡◌}
 use Rattle.mr_base.specs.Disk.{State}
 use Rattle.mr_spec.specs.World.{World}
 use Rattle.mr_sound.specs.Sound.{IsSound}
-use Rattle.mr_model_engine.specs.Few.{FewColumns}
+use Rattle.mr_schema.specs.Few.{FewColumns}
 use Rattle.mr_model_engine.specs.Worlds.{world_in}
 use Rattle.mr_commit_log.specs.Appending.{IsReady}
 use Rattle.mr_serve.specs.declared.server.Server.{Server}

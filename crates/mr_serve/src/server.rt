@@ -13,8 +13,7 @@ ghost use Rattle.mr_types.specs.declared.row.Commit.{Commit};
 ghost use Rattle.mr_commit_log.specs.Appending.{IsSettled, early};
 ghost use Rattle.mr_commit_log.specs.Causes.{GoesOn, IsCausedBy};
 ghost use Rattle.mr_commit_log.specs.Folder.{Holds};
-ghost use Rattle.mr_model_engine.specs.Few.{FewColumns};
-ghost use Rattle.mr_commit_log.specs.Opening.{AreRead, IsKept, IsSilent, KeepsRecords, IsOpeningCause};
+ghost use Rattle.mr_commit_log.specs.Opening.{IsKept, IsSilent, KeepsRecords, IsOpeningCause};
 ghost use Rattle.mr_serve.specs.Serving.{IsServing, Stands};
 ghost use Rattle.mr_serve.specs.Settled.{Runs};
 
@@ -57,7 +56,6 @@ impl Server {
     /// Opens the folder: its binary log, which is not to pass `limit` bytes, and the engine that its commits make. Damage of the log
     /// itself is found first, and then nothing is changed; else its tail is repaired, and its commits are read.
     pub fn open<H: Host>(alloc: Global, host: &mut H, limit: u64) -> Result<Server, Stop>
-        requires few { (commits : List Commit) → AreRead commits → FewColumns commits }
         ensures serving { IfOk result (λ s. IsServing s (H.disk host.new)) }
         ensures fresh { IfOk result (λ s. (s.failed ≡ false) × (s.replies ≡ 0) × (s.log.gate.limit ≡ limit)) }
         ensures goes_on { GoesOn (H.disk host.old) (H.disk host.new) }

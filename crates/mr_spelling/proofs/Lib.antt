@@ -6,3 +6,5 @@ pub mod RowsRead
 pub mod ConditionsRead
 pub mod SelectsRead
 pub mod TablesRead
+pub mod StatementsRead
+pub mod TextsRead

@@ -25,6 +25,9 @@ pub second_of_both : (a b : Bool) → (a && b) ≡ true → b ≡ true
 second_of_both true b e = e
 second_of_both false b e = absurd (true≢false (sym e))
 
+pub both-true : (a b : Bool) → a ≡ true → b ≡ true → (a && b) ≡ true
+both-true a b h k = rw (h, k) refl
+
 pub each-of : {A : Type 0} (P : A → Type 0) (ok : A → Bool) → ((x : A) → ok x ≡ true → P x) → (xs : List A) → list_all ok xs ≡ true → Each P xs
 each-of P ok f [] h = tt
 each-of P ok f (x ∷ xs) h = (f x (first_of_both (ok x) (list_all ok xs) h), each-of P ok f xs (second_of_both (ok x) (list_all ok xs) h))

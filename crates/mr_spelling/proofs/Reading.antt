@@ -294,6 +294,14 @@ pub no_sign_last : (sign : List ℕ) {all : List Part} → lacks_sign sign all �
 unfolding after_sign
 no_sign_last sign {all} l = record { reads = λ ts s. stays all false pure (sees_sign sign ts) ts (unseen-sign sign ts all s l) (refl, s) }
 
+want_last-all : (word : List ℕ) (all : List Part) (ts : List Lexeme) → Spell ts (Keyword word ∷ all) → IsRead tt all (expect word ts)
+unfolding expect behind
+want_last-all word all [] s = absurd s
+want_last-all word all (t ∷ ts) s = rw (seen word t ts s.0) (refl, s.1)
+
+pub want_last : {word : List ℕ} {all : List Part} → Reads (expect word) (Keyword word ∷ all) tt all
+want_last {word} {all} = record { reads = want_last-all word all }
+
 want_sign_last-all : (sign : List ℕ) (all : List Part) (ts : List Lexeme) → Spell ts (Mark sign ∷ all) → IsRead tt all (expect_sign sign ts)
 unfolding expect_sign behind
 want_sign_last-all sign all [] s = absurd s

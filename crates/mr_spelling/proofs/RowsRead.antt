@@ -192,7 +192,7 @@ abbrev pub is_set_spelled : SetItem → Bool
 is_set_spelled s = is_set s && is_plain_to s.to
 
 -- what may stand behind an assignment
-abbrev ends_set : List Part → Bool
+abbrev pub ends_set : List Part → Bool
 ends_set more = lacks_sign (codes "*") more && (lacks_sign (codes "+") more && lacks_sign (codes "-") more)
 
 ends-of : (more : List Part) → ends_set more ≡ true → EndsSum more

@@ -23,7 +23,7 @@ use Rattle.mr_spelling.specs.Spelling.{spelled_list, spelled_name}
 use Rattle.mr_spelling.specs.Conditions.{spelled_where}
 use Rattle.mr_spelling.specs.Selects.{spelled_aggregate, spelled_columns, spelled_index, spelled_forced, direction, spelled_order_item, spelled_order, spelled_limit, spelled_select, is_limited}
 use Rattle.mr_spelling.proofs.Reading.{Reads, go, done, checked, lacks, lacks_sign, yes, no, yes_sign, no_sign, want, want_sign, named, looks, looks_past, seen, seen-sign, unseen-sign, yes_last, named_last, want_sign_last}
-use Rattle.mr_spelling.proofs.Lists.{IsItem, any_rest, some_each-of, first_of_both, second_of_both, listed-reads, names-read, in_parentheses-reads}
+use Rattle.mr_spelling.proofs.Lists.{IsItem, any_rest, some_each-of, both-true, first_of_both, second_of_both, listed-reads, names-read, in_parentheses-reads}
 use Rattle.mr_spelling.proofs.Literals.{number-reads}
 use Rattle.mr_spelling.proofs.ConditionsRead.{is_where, ends_or, condition-reads}
 
@@ -182,9 +182,6 @@ where-lacks word (Some c) more h l = ap not h
 limit-no_comma : (skip : ℕ) (most : Option ℕ) → lacks_sign (codes ",") (spelled_limit skip most) ≡ true
 limit-no_comma skip None = refl
 limit-no_comma skip (Some most) = refl
-
-both-true : (a b : Bool) → a ≡ true → b ≡ true → (a && b) ≡ true
-both-true a b h k = rw (h, k) refl
 
 -- ---- SELECT
 

@@ -1,5 +1,5 @@
 -- CREATE TABLE is read.
-use Rattle.std.proofs.Common.{◌≡◌, ℕ, zero, suc, ◌+◌, ◌-◌, ◌^◌, ◌≤◌, List, [], ◌∷◌, ◌++◌, length, map, Bool, true, false, true≢false, not, ◌&&◌, ◌||◌, nat_lt, Option, Some, None, codes, arith, refl, ap, sym, subst, ◌∙◌, append_assoc, is_none}
+use Rattle.std.proofs.Common.{◌≡◌, ℕ, zero, suc, ◌+◌, ◌-◌, ◌^◌, ◌≤◌, List, [], ◌∷◌, ◌++◌, length, map, Bool, true, false, true≢false, not, ◌&&◌, ◌||◌, nat_lt, Option, Some, None, codes, arith, refl, ap, sym, subst, ◌∙◌, append_assoc, append-nil, is_none}
 use Rattle.std.specs.List.{list_all}
 use Rattle.std.proofs.lemmas.Bool.{ltb-true}
 use Rattle.mr_pieces.specs.declared.collation.Collation.{Collation}
@@ -19,12 +19,12 @@ use Rattle.mr_spec.specs.declared.drafts.TableOptions.{TableOptions}
 use Rattle.mr_spec.specs.Phrases.{sees_sign}
 use Rattle.mr_spec.specs.Literals.{greatest}
 use Rattle.mr_spec.specs.TablePhrases.{collation, key_word, named_key, primary_of, primary_key, display_width, number_type, column_type, is_varchar, with_collation, no_attributes, with_nullable, with_default, with_column_collation, text_attribute, attribute, attributes_from, attributes, or_nullable, or_ci, column_of, with_key, with_column, column, item, items_from, no_items, items, no_options, with_engine, with_table_comment, text_option, plain_option, option, options_from, options, if_not_exists, closed, or_empty, table_of, create_table}
-use Rattle.mr_spelling.specs.Parts.{Part, Keyword, Mark, Name, Count, Plain}
-use Rattle.mr_spelling.specs.Spelling.{spelled_list, spelled_names, spelled_literal}
+use Rattle.mr_spelling.specs.Parts.{Part, Keyword, Mark, Name, Count, Quoted, Plain}
+use Rattle.mr_spelling.specs.Spelling.{spelled_list, spelled_name, spelled_names, spelled_literal}
 use Rattle.mr_spelling.specs.Sessions.{spelled_comment}
 use Rattle.mr_spelling.specs.Tables.{spelled_kind, spelled_nullable, spelled_default, collation_word, collation_of, spelled_collation, spelled_column, spelled_key_words, spelled_key, TableItem, OfColumn, OfKey, spelled_table_item, items_of, spelled_engine, spelled_if_not_exists, spelled_create_table}
-use Rattle.mr_spelling.proofs.Reading.{Reads, go, done, done_as, checked, lacks, lacks_sign, yes, no, yes_sign, no_sign, want, want_sign, named, looks_past, unseen-sign, maybe_no_sign, no_last, with_turns}
-use Rattle.mr_spelling.proofs.Lists.{first_of_both, second_of_both, in_parentheses-reads, names_in-reads}
+use Rattle.mr_spelling.proofs.Reading.{Reads, go, done, done_as, checked, lacks, lacks_sign, yes, no, yes_sign, no_sign, want, want_last, want_sign, named, looks_past, unseen-sign, maybe_no_sign, no_last, with_turns}
+use Rattle.mr_spelling.proofs.Lists.{both-true, first_of_both, second_of_both, in_parentheses-reads, names_in-reads}
 use Rattle.mr_spelling.proofs.Literals.{number-reads, text-reads, word-reads, literal-reads, literal-grows}
 use Rattle.mr_spelling.proofs.SessionsRead.{comment-reads}
 
@@ -226,3 +226,156 @@ items-from zero d x xs more le h = absurd (omega arith)
 items-from (suc n) d x [] more le h = go _ (item-reads d x (codes ")") more (first_of_both (is_table_item x) true h)) (no_sign _ _ refl done)
 items-from (suc n) d x (y ∷ ys) more le h = go _ (item-reads d x (codes ",") _ (first_of_both (is_table_item x) (list_all is_table_item (y ∷ ys)) h))
     (yes_sign _ (items-from n (drafted d x) y ys more (omega (arith, le)) (second_of_both (is_table_item x) (list_all is_table_item (y ∷ ys)) h)))
+
+kind-grows : (k : KindText) (more : List Part) → suc (length more) ≤ length (spelled_kind k more)
+kind-grows kinds.Int more = omega arith
+kind-grows kinds.IntUnsigned more = omega arith
+kind-grows kinds.BigInt more = omega arith
+kind-grows kinds.BigIntUnsigned more = omega arith
+kind-grows (kinds.VarChar n c) more = omega arith
+kind-grows (kinds.VarBinary n) more = omega arith
+
+default-grows : (d : Option Value) (more : List Part) → length more ≤ length (spelled_default d more)
+default-grows None more = omega arith
+default-grows (Some v) more = omega (arith, literal-grows v more)
+
+collation-grows : (o : Option Collation) (more : List Part) → length more ≤ length (spelled_collation o more)
+collation-grows None more = omega arith
+collation-grows (Some c) more = omega arith
+
+column-grows : (c : ColumnText) (more : List Part) → suc (length more) ≤ length (spelled_column c more)
+column-grows c more =
+    let last = spelled_collation (collation_of c.kind) more in
+    omega (arith, kind-grows c.kind (spelled_nullable c.nullable (spelled_default c.default last)), nullable-grows c.nullable (spelled_default c.default last), default-grows c.default last, collation-grows (collation_of c.kind) more)
+
+names-grow : (ns : List (List ℕ)) (more : List Part) → length more ≤ length (spelled_list spelled_name ns more)
+names-grow [] more = omega arith
+names-grow (n ∷ []) more = omega arith
+names-grow (n ∷ m ∷ ns) more = omega (arith, names-grow (m ∷ ns) more)
+
+comment-grows : (about : List ℕ) (more : List Part) → length more ≤ length (spelled_comment about more)
+comment-grows [] more = omega arith
+comment-grows (c ∷ cs) more = omega arith
+
+words-grow : (primary unique : Bool) (n : List ℕ) (more : List Part) → length more ≤ length (spelled_key_words primary unique n more)
+words-grow true unique n more = omega arith
+words-grow false true n more = omega arith
+words-grow false false n more = omega arith
+
+key-grows : (k : KeyText) (more : List Part) → suc (length more) ≤ length (spelled_key k more)
+key-grows k more = omega (arith, words-grow k.primary k.unique k.name (spelled_names k.columns (spelled_comment k.comment more)), names-grow k.columns (Mark (codes ")") ∷ spelled_comment k.comment more), comment-grows k.comment more)
+
+item-grows : (x : TableItem) (more : List Part) → suc (length more) ≤ length (spelled_table_item x more)
+item-grows (OfColumn c) more = column-grows c more
+item-grows (OfKey k) more = key-grows k more
+
+items-grow : (xs : List TableItem) (more : List Part) → length xs + length more ≤ length (spelled_list spelled_table_item xs more)
+items-grow [] more = omega arith
+items-grow (x ∷ []) more = omega (arith, item-grows x more)
+items-grow (x ∷ y ∷ ys) more = omega (arith, item-grows x (Mark (codes ",") ∷ spelled_list spelled_table_item (y ∷ ys) more), items-grow (y ∷ ys) more)
+
+items-read : (xs : List TableItem) (more : List Part) → not (is_empty xs) ≡ true → list_all is_table_item xs ≡ true → Reads items (spelled_list spelled_table_item xs (Mark (codes ")") ∷ more)) (drafted_all no_items xs) (Mark (codes ")") ∷ more)
+items-read [] more e h = absurd (true≢false (sym e))
+items-read (x ∷ xs) more e h = with_turns (λ n. items_from n no_items) (λ n le. items-from n no_items x xs more (omega (arith, le, items-grow (x ∷ xs) (Mark (codes ")") ∷ more))) h)
+
+-- the columns and keys that were read are those of the table
+drafted-keys : (d : TableDraft) (ks : List KeyText) → drafted_all d (map OfKey ks) ≡ record { columns = d.columns; keys = d.keys ++ ks }
+drafted-keys d [] = ap (λ (keys : List KeyText). record { columns = d.columns; keys = keys }) (sym (append-nil d.keys))
+drafted-keys d (k ∷ ks) = drafted-keys (with_key d k) ks ∙ ap (λ (keys : List KeyText). record { columns = d.columns; keys = keys }) (append_assoc d.keys (k ∷ []) ks)
+
+drafted-columns : (d : TableDraft) (cs : List ColumnText) (ks : List KeyText) → drafted_all d (map OfColumn cs ++ map OfKey ks) ≡ record { columns = d.columns ++ map draft_of cs; keys = d.keys ++ ks }
+drafted-columns d [] ks = drafted-keys d ks ∙ ap (λ (columns : List ColumnDraft). record { columns = columns; keys = d.keys ++ ks }) (sym (append-nil d.columns))
+drafted-columns d (c ∷ cs) ks = drafted-columns (with_column d (draft_of c)) cs ks ∙ ap (λ (columns : List ColumnDraft). record { columns = columns; keys = d.keys ++ ks }) (append_assoc d.columns (draft_of c ∷ []) (map draft_of cs))
+
+all-columns : (cs : List ColumnText) (xs : List TableItem) → list_all is_column_text cs ≡ true → list_all is_table_item xs ≡ true → list_all is_table_item (map OfColumn cs ++ xs) ≡ true
+all-columns [] xs h k = k
+all-columns (c ∷ cs) xs h k = both-true (is_column_text c) (list_all is_table_item (map OfColumn cs ++ xs)) (first_of_both (is_column_text c) (list_all is_column_text cs) h) (all-columns cs xs (second_of_both (is_column_text c) (list_all is_column_text cs) h) k)
+
+all-keys : (ks : List KeyText) → list_all is_key_text ks ≡ true → list_all is_table_item (map OfKey ks) ≡ true
+all-keys [] h = refl
+all-keys (k ∷ ks) h = both-true (is_key_text k) (list_all is_table_item (map OfKey ks)) (first_of_both (is_key_text k) (list_all is_key_text ks) h) (all-keys ks (second_of_both (is_key_text k) (list_all is_key_text ks) h))
+
+some-items : (cs : List ColumnText) (ks : List KeyText) → not (is_empty cs && is_empty ks) ≡ true → not (is_empty (map OfColumn cs ++ map OfKey ks)) ≡ true
+some-items [] [] h = h
+some-items [] (k ∷ ks) h = refl
+some-items (c ∷ cs) ks h = refl
+
+-- ---- options
+
+abbrev given : List ℕ → Option (List ℕ)
+given [] = None
+given (c ∷ cs) = Some (c ∷ cs)
+
+abbrev options_with : Option (List ℕ) → Option (List ℕ) → TableOptions
+options_with engine about = record { engine = engine; charset = false; collation = None; comment = about }
+
+engine-reads : (w : List ℕ) (more : List Part) → is_ascii_text w ≡ true → Reads (option no_options) (Keyword (codes "engine") ∷ Plain w ∷ more) (options_with (Some w) None, true) more
+unfolding option plain_option with_engine
+engine-reads w more h = no_sign _ _ refl (yes _ (go _ (checked _ refl (go _ (maybe_no_sign _ refl) (go _ (word-reads h) done))) done))
+
+about-reads : (engine : Option (List ℕ)) (about : List ℕ) (more : List Part) → is_ascii_text about ≡ true → Reads (option (options_with engine None)) (Keyword (codes "comment") ∷ Quoted about ∷ more) (options_with engine (Some about), true) more
+unfolding option plain_option with_table_comment
+about-reads engine about more h = no_sign _ _ refl (no _ _ refl (yes _ (go _ (checked _ refl (go _ (maybe_no_sign _ refl) (go _ (text-reads h) done))) done)))
+
+no-option : (o : TableOptions) → Reads (option o) [] (o, false) []
+unfolding option plain_option text_option
+no-option o = no_sign _ _ refl (no _ _ refl (no _ _ refl (no _ _ refl (no _ _ refl (no _ _ refl (no _ _ refl done))))))
+
+one-option : (n : ℕ) (a b : TableOptions) (all mid : List Part) (c : TableOptions) (rest : List Part) → Reads (option a) all (b, true) mid → Reads (options_from n b) mid c rest → Reads (options_from (suc n) a) all c rest
+unfolding options_from
+one-option n a b all mid c rest r g = go _ r g
+
+end-options : (n : ℕ) (o : TableOptions) → Reads (options_from n o) [] o []
+unfolding options_from
+end-options zero o = done
+end-options (suc n) o = go _ (no-option o) done
+
+last-options : (n : ℕ) (engine : Option (List ℕ)) (about : List ℕ) → is_ascii_text about ≡ true → length (spelled_comment about []) ≤ n → Reads (options_from n (options_with engine None)) (spelled_comment about []) (options_with engine (given about)) []
+last-options n engine [] h le = end-options n (options_with engine None)
+last-options zero engine (c ∷ cs) h le = absurd (omega arith)
+last-options (suc n) engine (c ∷ cs) h le = one-option n (options_with engine None) (options_with engine (Some (c ∷ cs))) _ [] (options_with engine (Some (c ∷ cs))) [] (about-reads engine (c ∷ cs) [] h) (end-options n (options_with engine (Some (c ∷ cs))))
+
+abbrev pub is_engine : List ℕ → Bool
+is_engine w = not (is_empty w) && is_ascii_text w
+
+all-options : (n : ℕ) (engine : Option (List ℕ)) (about : List ℕ) → where_given is_engine engine ≡ true → is_ascii_text about ≡ true → length (spelled_engine engine (spelled_comment about [])) ≤ n
+    → Reads (options_from n no_options) (spelled_engine engine (spelled_comment about [])) (options_with engine (given about)) []
+all-options n None about w h le = last-options n None about h le
+all-options zero (Some engine) about w h le = absurd (omega arith)
+all-options (suc n) (Some engine) about w h le = one-option n no_options (options_with (Some engine) None) _ (spelled_comment about []) (options_with (Some engine) (given about)) []
+    (engine-reads engine (spelled_comment about []) (second_of_both (not (is_empty engine)) (is_ascii_text engine) w)) (last-options n (Some engine) about h (omega (arith, le)))
+
+options-read : (engine : Option (List ℕ)) (about : List ℕ) → where_given is_engine engine ≡ true → is_ascii_text about ≡ true → Reads options (spelled_engine engine (spelled_comment about [])) (options_with engine (given about)) []
+options-read engine about w h = with_turns (λ n. options_from n no_options) (λ n le. all-options n engine about w h le)
+
+-- ---- CREATE TABLE
+
+mild-reads : (mild : Bool) (n : List ℕ) (more : List Part) → Reads if_not_exists (spelled_if_not_exists mild (Name n ∷ more)) mild (Name n ∷ more)
+unfolding if_not_exists
+mild-reads true n more = yes _ (go _ (want _ want_last) done)
+mild-reads false n more = no _ _ refl done
+
+comment-same : (about : List ℕ) → or_empty (given about) ≡ about
+comment-same [] = refl
+comment-same (c ∷ cs) = refl
+
+table-same : (text : TableText) (engine : Option (List ℕ)) → table_of text.name (drafted_all no_items (items_of text)) (options_with engine (given text.comment)) ≡ text
+table-same text engine =
+    ap (λ d. table_of text.name d (options_with engine (given text.comment))) (drafted-columns no_items text.columns text.keys)
+    ∙ ap (λ (columns : List ColumnText). record { name = text.name; columns = columns; keys = text.keys; comment = or_empty (given text.comment) }) (closed-columns Ci text.columns)
+    ∙ ap (λ (about : List ℕ). record { name = text.name; columns = text.columns; keys = text.keys; comment = about }) (comment-same text.comment)
+
+pub create_table-reads : (text : TableText) (mild : Bool) (engine : Option (List ℕ)) → is_table_text text ≡ true → where_given is_engine engine ≡ true
+    → Reads create_table (spelled_create_table text mild engine) (statements.CreateTable text mild engine) []
+unfolding create_table
+create_table-reads text mild engine h w =
+    let columns = list_all is_column_text text.columns in
+    let keys = list_all is_key_text text.keys in
+    let h1 : (columns && (keys && (not (is_empty text.columns && is_empty text.keys) && is_ascii_text text.comment))) ≡ true = second_of_both (is_name text.name) _ h in
+    let h2 : (keys && (not (is_empty text.columns && is_empty text.keys) && is_ascii_text text.comment)) ≡ true = second_of_both columns _ h1 in
+    let h3 : (not (is_empty text.columns && is_empty text.keys) && is_ascii_text text.comment) ≡ true = second_of_both keys _ h2 in
+    go _ (mild-reads mild text.name _) (named _
+    (go _ (in_parentheses-reads (items-read (items_of text) _ (some-items text.columns text.keys (first_of_both (not (is_empty text.columns && is_empty text.keys)) _ h3))
+      (all-columns text.columns (map OfKey text.keys) (first_of_both columns _ h1) (all-keys text.keys (first_of_both keys _ h2)))))
+    (go _ (options-read engine text.comment w (second_of_both (not (is_empty text.columns && is_empty text.keys)) _ h3))
+    (done_as (ap (λ t. statements.CreateTable t mild engine) (table-same text engine))))))

@@ -5,3 +5,5 @@ pub mod Rows
 pub mod Conditions
 pub mod Selects
 pub mod Tables
+pub mod Statements
+pub mod Texts
