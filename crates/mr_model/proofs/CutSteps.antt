@@ -1,7 +1,6 @@
 -- A cutter goes with a reader, byte by byte.
 use Rattle.std.proofs.Common.{◌≡◌, ◌≤◌, ◌<◌, ◌+◌, ℕ, Bool, true, false, not, List, [], ◌∷◌, ◌++◌, length, take, map, get_or, if◌then◌else◌, refl, ap, sym, ◌∙◌, subst, append-nil, Result, Ok, Err, IfOk}
 use Rattle.std.proofs.lemmas.List.{take_more, take_all}
-use Rattle.mr_lex.specs.declared.place.Split.{Split}
 use Rattle.mr_lex.specs.declared.place.Split.TheVariants.{End, Blank, Inside}
 use Rattle.mr_lex.specs.Cutting.{is_blank, split_of, since_with, ends, parts_of}
 use Rattle.mr_lex.specs.Standing.{HasRead}

@@ -23,7 +23,7 @@ use Rattle.mr_spec.specs.declared.progress.Refusal.{Refusal}
 use Rattle.mr_spec.specs.Progress.{Scene}
 use Rattle.mr_spec.specs.Checks.{check}
 use Rattle.mr_spec.specs.Changes.{insert_changes, replace_changes, update_changes, delete_changes}
-use Rattle.mr_spec.specs.World.{World, with_rows, with_commit, committed, kept_in, changes_by, entered, is_stale}
+use Rattle.mr_spec.specs.World.{World, with_rows, committed, kept_in, changes_by, entered, is_stale}
 use Rattle.mr_spec.specs.Outcome.{Outcome, answered}
 use Rattle.mr_spec.specs.RowSteps.{on_rows, select_answer, select_outcome, write_outcome, written, after_rows}
 use Rattle.mr_spec.specs.SchemaSteps.{created, create_table, drop_table, with_begun, begin_index, finish_index, cancel_index, create_index, drop_index, lock_tables, published}

@@ -1,5 +1,5 @@
 -- How a run goes: statement by statement, each with the next value of the clock.
-use Rattle.std.specs.Prelude.{◌≡◌, ℕ, zero, suc, ◌+◌, IsTrue, List, [], ◌++◌, ◌||◌, length, Result}
+use Rattle.std.specs.Prelude.{◌≡◌, ℕ, zero, suc, ◌+◌, IsTrue, List, ◌++◌, ◌||◌, length, Result}
 use Rattle.mr_base.specs.Source.{ClockState}
 use Rattle.mr_types.specs.declared.row.Commit.{Commit}
 use Rattle.mr_types.specs.declared.statement.Statement.{Statement}

@@ -1,17 +1,19 @@
 //! The changes that a writing statement makes, row by row, or its refusal.
 
-ghost use Rattle.std.specs.Prelude.{◌≡◌, IfOk};
+ghost use Rattle.std.specs.Prelude.{◌≡◌, IfOk, length};
 ghost use Rattle.mr_types.specs.Refusals.{in_turn};
+ghost use Rattle.mr_model_changes.specs.Leaving.{leaves, start_among};
 ghost use Rattle.mr_model_changes.specs.Telling.{scene_in, Tells};
 ghost use Rattle.mr_spec.specs.Truth.{where_of};
 ghost use Rattle.mr_spec.specs.Changes.{inserted as row_inserted, replaced as row_replaced, deleted as row_deleted, updated as row_updated, insert_changes as inserts_of, replace_changes as replaces_of, chosen as rows_chosen, update_changes as updates_of, delete_changes as deletes_of};
 
-use crate::inserting::{inserted, replaced};
+use crate::inserting::{inserted, inserted_among, replaced};
 use crate::scene::{Failed, Scene, told};
 use crate::setting::update_tests;
 use crate::steps::seen_rows;
 use crate::tuples::insert_tests;
 use crate::updating::{deleted, updated};
+use crate::written::Written;
 use mr_base::Memory;
 use mr_model_rows::{kept_by, known_columns, right_literals};
 use mr_spec::{Progress, RowList};
@@ -53,6 +55,22 @@ pub fn insert_changes(
         start,
         statement.rows.as_slice(),
     )
+}
+
+/// INSERT of one tuple, among rows that stay where they lie: what it leaves, or its refusal.
+pub fn insert_one(
+    alloc: Global,
+    scene: &Scene,
+    statement: &Insert,
+    rows: &[Row],
+    next: u64,
+) -> Result<Written, Failed>
+    requires one { length statement.now.rows ≡ 1 }
+    ensures { Tells result (leaves (inserts_of (scene_in scene.now) statement.now (start_among rows.now next))) }
+{
+    let at = told(next, insert_tests(alloc, scene.def, statement))?;
+    let tuple = &statement.rows.as_slice()[0];
+    inserted_among(alloc, scene, at.as_slice(), rows, next, tuple.as_slice())
 }
 
 fn all_replaced(

@@ -2,18 +2,19 @@
 
 ghost use Rattle.std.specs.Prelude.{◌≡◌, ◌+◌, ◌++◌, ◌∷◌, [], map, filter, length, IfOk};
 ghost use Rattle.mr_types.specs.declared.row.Change.TheVariants as kinds;
+ghost use Rattle.mr_model_changes.specs.Leaving.{leaves, start_among};
 ghost use Rattle.mr_model_changes.specs.Telling.{scene_in, Tells};
 ghost use Rattle.mr_model_changes.specs.Writing.{exchanged as row_exchanged};
-ghost use Rattle.mr_spec.specs.Progress.{seen_rows as rows_seen};
-ghost use Rattle.mr_spec.specs.Rows.{clashes as clash};
+ghost use Rattle.mr_spec.specs.Rows.{clashes as clash, visible as seen_in};
 ghost use Rattle.mr_spec.specs.Changes.{inserted as row_inserted, replaced as row_replaced};
 
-use crate::new_rows::new_row;
+use crate::new_rows::{new_row, next_behind};
 use crate::scene::{Failed, Scene, told};
-use crate::steps::{advanced, alone, claimed, drawn, is_new, seen_rows};
+use crate::steps::{advanced, alone, claimed, drawn, is_free};
 use crate::tuples::fields_of;
+use crate::written::Written;
 use mr_base::Memory;
-use mr_model_rows::clashes;
+use mr_model_rows::{clashes, is_visible};
 use mr_spec::{Progress, RowList};
 use mr_types::{Change, ChangeList, ItemValue, Row, TableDef};
 use std::alloc::Global;
@@ -44,22 +45,32 @@ pub(crate) fn inserted(
     let made = alone(alloc, insert_of(alloc, scene.def, &new)?)?;
     let drawn = drawn(scene.def, so_far)?;
     told(drawn.next, claimed(scene, made.as_slice()))?;
-    let seen = seen_rows(alloc, scene, &drawn)?;
-    told(drawn.next, is_new(scene.def, &new, seen.as_slice()))?;
+    told(drawn.next, is_free(scene, &new, drawn.rows.as_slice()))?;
     Ok(advanced(alloc, scene, made, 1, drawn)?)
 }
 
-/// The rows that have the values of one of the row's keys.
-fn clashing(alloc: Global, def: &TableDef, new: &Row, rows: &[Row]) -> Result<RowList, Memory>
-    ensures { IfOk result (λ gone. gone ≡ filter (clash def.now new.now) rows.now) }
+/// The same of a statement's only tuple, among rows that stay where they lie.
+pub(crate) fn inserted_among(
+    alloc: Global,
+    scene: &Scene,
+    at: &[usize],
+    rows: &[Row],
+    next: u64,
+    tuple: &[ItemValue],
+) -> Result<Written, Failed>
+    ensures { Tells result (leaves (row_inserted (scene_in scene.now) at.now (start_among rows.now next) tuple.now)) }
 {
-    let mut gone = RowList::new(alloc);
-    for row in rows {
-        if clashes(def, new, row) {
-            gone.push(row.copy(alloc)?)?;
-        }
-    }
-    Ok(gone)
+    let fields = told(next, fields_of(alloc, scene.def, at, tuple))?;
+    let new = new_row(scene, next, fields)?;
+    let made = alone(alloc, insert_of(alloc, scene.def, &new)?)?;
+    let next = next_behind(scene.def, next)?;
+    told(next, claimed(scene, made.as_slice()))?;
+    told(next, is_free(scene, &new, rows))?;
+    Ok(Written {
+        changes: made,
+        next,
+        count: 1,
+    })
 }
 
 /// The deletes of these rows.
@@ -87,16 +98,16 @@ fn replacement(alloc: Global, def: &TableDef, gone: &[Row], new: &Row) -> Result
 }
 
 /// The visible rows that have the values of one of the row's keys.
-fn rows_in_the_way(
-    alloc: Global,
-    scene: &Scene,
-    new: &Row,
-    so_far: &Progress,
-) -> Result<RowList, Memory>
-    ensures { IfOk result (λ gone. gone ≡ filter (clash scene.now.def.now new.now) (rows_seen (scene_in scene.now) so_far.now)) }
+fn rows_in_the_way(alloc: Global, scene: &Scene, new: &Row, rows: &[Row]) -> Result<RowList, Memory>
+    ensures { IfOk result (λ gone. gone ≡ filter (clash scene.now.def.now new.now) (seen_in scene.now.def.now scene.now.moment rows.now)) }
 {
-    let seen = seen_rows(alloc, scene, so_far)?;
-    clashing(alloc, scene.def, new, seen.as_slice())
+    let mut gone = RowList::new(alloc);
+    for row in rows {
+        if is_visible(scene.def, scene.moment, row) && clashes(scene.def, new, row) {
+            gone.push(row.copy(alloc)?)?;
+        }
+    }
+    Ok(gone)
 }
 
 /// The row in the place of these, which are gone; its number is drawn, then 1205 and 1213.
@@ -129,6 +140,6 @@ pub(crate) fn replaced(
 {
     let fields = told(so_far.next, fields_of(alloc, scene.def, at, tuple))?;
     let new = new_row(scene, so_far.next, fields)?;
-    let gone = rows_in_the_way(alloc, scene, &new, &so_far)?;
+    let gone = rows_in_the_way(alloc, scene, &new, so_far.rows.as_slice())?;
     exchanged(alloc, scene, &new, gone.as_slice(), so_far)
 }

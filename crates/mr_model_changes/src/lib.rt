@@ -12,6 +12,8 @@ mod steps;
 mod sums;
 mod tuples;
 mod updating;
+mod written;
 
-pub use changes::{delete_changes, insert_changes, replace_changes, update_changes};
+pub use changes::{delete_changes, insert_changes, insert_one, replace_changes, update_changes};
 pub use scene::{Failed, Scene};
+pub use written::{Written, left_of_progress};

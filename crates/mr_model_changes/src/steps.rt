@@ -8,12 +8,12 @@ ghost use Rattle.mr_model_changes.specs.Telling.{scene_in};
 ghost use Rattle.mr_spec.specs.Claims.{has_claim_in as claim_in, claimed as is_claimed};
 ghost use Rattle.mr_spec.specs.NewRows.{drawn as number_drawn};
 ghost use Rattle.mr_spec.specs.Progress.{seen_rows as rows_seen, advanced as gone_on};
-ghost use Rattle.mr_spec.specs.Rows.{clashes as clash, rows_after as rows_behind};
+ghost use Rattle.mr_spec.specs.Rows.{clashes as clash, rows_after as rows_behind, visible as seen_in, without as left_without};
 
 use crate::new_rows::next_behind;
 use crate::scene::Scene;
 use mr_base::Memory;
-use mr_model_rows::{clashes, has_claim_in, rows_after, visible};
+use mr_model_rows::{clashes, has_claim_in, is_visible, rows_after, same_primary, visible};
 use mr_spec::{Progress, RowList};
 use mr_types::{Change, ChangeList, Refused, Row, TableDef};
 use std::alloc::Global;
@@ -54,18 +54,55 @@ pub(crate) fn claimed(scene: &Scene, made: &[Change]) -> Result<(), Refused>
     Ok(())
 }
 
-/// Whether one of these rows has the values of one of the row's keys.
-fn is_taken(def: &TableDef, new: &Row, rows: &[Row]) -> bool
-    ensures { result ≡ list_any (clash def.now new.now) rows.now }
+/// Whether one of these rows that is visible has the values of one of the row's keys.
+fn is_taken_visibly(scene: &Scene, new: &Row, rows: &[Row]) -> bool
+    ensures { result ≡ list_any (clash scene.now.def.now new.now) (seen_in scene.now.def.now scene.now.moment rows.now) }
 {
-    rows.iter().any(|row| clashes(def, new, row))
+    for row in rows {
+        if is_visible(scene.def, scene.moment, row) && clashes(scene.def, new, row) {
+            return true;
+        }
+    }
+    false
 }
 
-/// 1062 where one of these rows has the values of one of the row's keys.
-pub(crate) fn is_new(def: &TableDef, new: &Row, rows: &[Row]) -> Result<(), Refused>
-    ensures { Answers result (refuse_where 1062 (list_any (clash def.now new.now) rows.now)) }
+/// 1062 where one of these rows that is visible has the values of one of the row's keys.
+pub(crate) fn is_free(scene: &Scene, new: &Row, rows: &[Row]) -> Result<(), Refused>
+    ensures { Answers result (refuse_where 1062 (list_any (clash scene.now.def.now new.now) (seen_in scene.now.def.now scene.now.moment rows.now))) }
 {
-    if is_taken(def, new, rows) {
+    if is_taken_visibly(scene, new, rows) {
+        return Err(Refused::Sql(1062));
+    }
+    Ok(())
+}
+
+/// Whether one of these rows that is visible, but for the one with the key of `old`, has the values of
+/// one of the row's keys.
+fn is_taken_beside(scene: &Scene, old: &Row, new: &Row, rows: &[Row]) -> bool
+    ensures { result ≡ list_any (clash scene.now.def.now new.now) (left_without scene.now.def.now old.now (seen_in scene.now.def.now scene.now.moment rows.now)) }
+{
+    for row in rows {
+        if is_visible(scene.def, scene.moment, row)
+            && !same_primary(scene.def, old, row)
+            && clashes(scene.def, new, row)
+        {
+            return true;
+        }
+    }
+    false
+}
+
+/// 1062 where one of these rows that is visible, but for the one with the key of `old`, has the values
+/// of one of the row's keys.
+pub(crate) fn is_free_beside(
+    scene: &Scene,
+    old: &Row,
+    new: &Row,
+    rows: &[Row],
+) -> Result<(), Refused>
+    ensures { Answers result (refuse_where 1062 (list_any (clash scene.now.def.now new.now) (left_without scene.now.def.now old.now (seen_in scene.now.def.now scene.now.moment rows.now)))) }
+{
+    if is_taken_beside(scene, old, new, rows) {
         return Err(Refused::Sql(1062));
     }
     Ok(())

@@ -6,16 +6,13 @@ ghost use Rattle.mr_types.specs.Refusals.{in_turn};
 ghost use Rattle.mr_types.specs.Values.{Answers};
 ghost use Rattle.mr_model_changes.specs.Telling.{scene_in, Tells};
 ghost use Rattle.mr_spec.specs.Changes.{deleted as row_deleted, moved as row_moved, updated as row_updated};
-ghost use Rattle.mr_spec.specs.Progress.{seen_rows as rows_seen};
-ghost use Rattle.mr_spec.specs.Rows.{without as rows_without};
 ghost use Rattle.mr_spec.specs.Setting.{with_item as and_item};
 
 use crate::scene::{Failed, Scene, told};
 use crate::setting::{same_fields, updated_row, with_item};
-use crate::steps::{advanced, alone, claimed, is_new, seen_rows};
+use crate::steps::{advanced, alone, claimed, is_free_beside};
 use mr_base::Memory;
-use mr_model_rows::without;
-use mr_spec::{Progress, RowList};
+use mr_spec::Progress;
 use mr_types::{Change, Refused, Row, SetItem, TableDef, ValueList, copy_values};
 use std::alloc::Global;
 
@@ -54,14 +51,6 @@ fn update_of(alloc: Global, def: &TableDef, old: &Row, new: &Row) -> Result<Chan
     })
 }
 
-/// The other rows that the statement sees.
-fn other_rows(alloc: Global, scene: &Scene, old: &Row, so_far: &Progress) -> Result<RowList, Memory>
-    ensures { IfOk result (λ rows. rows ≡ rows_without scene.now.def.now old.now (rows_seen (scene_in scene.now) so_far.now)) }
-{
-    let seen = seen_rows(alloc, scene, so_far)?;
-    Ok(without(scene.def, old, seen))
-}
-
 /// An old row becomes a new one: 1205, 1213, and 1062 where another visible row has the values of
 /// one of its keys.
 fn moved(
@@ -75,8 +64,10 @@ fn moved(
 {
     let made = alone(alloc, update_of(alloc, scene.def, old, new)?)?;
     told(so_far.next, claimed(scene, made.as_slice()))?;
-    let others = other_rows(alloc, scene, old, &so_far)?;
-    told(so_far.next, is_new(scene.def, new, others.as_slice()))?;
+    told(
+        so_far.next,
+        is_free_beside(scene, old, new, so_far.rows.as_slice()),
+    )?;
     Ok(advanced(alloc, scene, made, 1, so_far)?)
 }
 

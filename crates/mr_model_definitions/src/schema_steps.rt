@@ -55,7 +55,7 @@ pub fn create_table(
     if is_other_engine(word) {
         return Err(Refused::Sql(1286));
     }
-    if committed_table(alloc, engine, text.name.as_slice())?.is_none() {
+    if committed_table(engine, text.name.as_slice())?.is_none() {
         create(alloc, engine, text)
     } else if if_not_exists {
         Ok(Reply::Ok(0))
@@ -85,7 +85,7 @@ pub fn drop_table(
 ) -> Result<Reply, Refused>
     ensures { Acts engine.old engine.new result (table_dropped (world_in engine.old) table.now if_exists) }
 {
-    if committed_table(alloc, engine, table.as_slice())?.is_some() {
+    if committed_table(engine, table.as_slice())?.is_some() {
         drop_there(alloc, engine, table)
     } else if if_exists {
         Ok(Reply::Ok(0))

@@ -1,11 +1,10 @@
 -- A definition that passes the checks has few columns.
-use Rattle.std.proofs.Common.{◌≡◌, ◌≤◌, ◌+◌, ℕ, Bool, true, false, nat_lt, List, [], ◌∷◌, ◌++◌, length, Result, Ok, Err, IfOk, refl, sym, arith, length-append}
+use Rattle.std.proofs.Common.{◌≡◌, ◌≤◌, ◌+◌, Bool, true, false, nat_lt, List, [], ◌∷◌, length, IfOk, refl, sym, arith, length-append}
 use Rattle.mr_types.specs.declared.definition.ColumnDef.{ColumnDef}
-use Rattle.mr_types.specs.declared.definition.TableDef.{TableDef}
 use Rattle.mr_types.specs.declared.text.ColumnText.{ColumnText}
 use Rattle.mr_types.specs.declared.text.KeyText.{KeyText}
 use Rattle.mr_types.specs.declared.text.TableText.{TableText}
-use Rattle.mr_types.specs.Refusals.{◌>>=◌, ◌>>◌, refuse_where, in_turn}
+use Rattle.mr_types.specs.Refusals.{◌>>◌, refuse_where, in_turn}
 use Rattle.mr_spec.specs.Checks.{check}
 use Rattle.mr_spec.specs.ColumnChecks.{checked_column, with_column, checked_columns}
 use Rattle.mr_model_engine.proofs.Answering.{bound, after, weaker}

@@ -1,5 +1,5 @@
 -- How a program's engine stands for a world of the definitions.
-use Rattle.std.specs.Prelude.{ℕ, List, [], ◌∷◌, Option, None}
+use Rattle.std.specs.Prelude.{ℕ, Bool, ◌||◌, List, [], ◌∷◌, Option, None, is_none, is_some}
 use Rattle.mr_types.specs.declared.definition.IndexDef.{IndexDef}
 use Rattle.mr_spec.specs.World.{World, at_name}
 use Rattle.mr_model_engine.specs.declared.engine.Building.{Building}
@@ -19,3 +19,7 @@ numbers_in (e ∷ es) = at_name e.table e.number (numbers_in es)
 -- the lists of entries as functions, the rest as it is
 abbrev pub world_in : Engine → World
 world_in e = record { commits = e.commits; here = e.here; others = e.others; building = building_in e.building; numbers = numbers_in e.numbers; moment = e.moment }
+
+-- what the current session sees is at hand: it is in no transaction, or its transaction keeps it
+abbrev pub keeps_view : Engine → Bool
+keeps_view e = is_none e.here.txn || is_some e.view

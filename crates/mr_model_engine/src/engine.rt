@@ -2,13 +2,15 @@
 //! change.
 
 ghost use Rattle.std.specs.Prelude.{◌≡◌, ◌∷◌, [], codes, OnOk, IfOk};
-ghost use Rattle.mr_spec.specs.Database.{replay as replay_of};
-ghost use Rattle.mr_spec.specs.World.{fresh as fresh_of, using_table};
+ghost use Rattle.std.specs.Option.{option_map};
+ghost use Rattle.mr_spec.specs.Database.{replay as replay_of, with_changes as changes_done};
+ghost use Rattle.mr_spec.specs.World.{fresh as fresh_of, using_table, view_of};
+ghost use Rattle.mr_model_engine.specs.Kept.{IsKept};
 
 use mr_base::{Blob, Memory};
-use mr_model_rows::{copy_tables, in_front, with_body};
-use mr_spec::{Session, SessionList, TableList, Txn};
-use mr_types::{ChangeList, Commit, CommitBody, IndexDef};
+use mr_model_rows::{in_front, with_body, with_changes};
+use mr_spec::{Session, SessionList, Table, TableList, Txn};
+use mr_types::{Change, ChangeList, Commit, CommitBody, IndexDef};
 use sqlite_items::Items;
 use std::alloc::Global;
 use std::mem;
@@ -28,17 +30,20 @@ pub struct NextNumber {
 }
 
 /// All that statements look at and change. Of the entries of `building` and `numbers` a table's
-/// first one tells. The tables are those that the commits make.
+/// first one tells. The tables are those that the commits make; there are none where memory ran out
+/// while they changed. The view is what the current session's transaction sees, where it is kept.
 #[derive(Drop)]
 pub struct Engine {
     pub commits: Items<Commit>,
-    pub tables: TableList,
+    pub tables: Option<TableList>,
     pub here: Session,
     pub others: SessionList,
     pub building: Items<Building>,
     pub numbers: Items<NextNumber>,
     pub moment: u64,
-    pub ghost current: { tables ≡ replay_of commits },
+    pub view: Option<TableList>,
+    pub ghost current: { IsKept tables (replay_of commits) },
+    pub ghost seen: { IsKept view (view_of commits here.txn) },
 }
 
 /// A session that was just made.
@@ -59,7 +64,18 @@ impl Engine {
     pub fn set_txn(&mut self, txn: Option<Txn>)
         ensures { world_in self.new ≡ with_txn txn (world_in self.old) }
     {
+        self.view = None;
         self.here.txn = txn;
+    }
+
+    /// The tables that the commits make. Where memory ran out while they changed, there are none.
+    pub fn tables(&self) -> Result<&[Table], Memory>
+        ensures { IfOk result (λ all. all.now ≡ replay_of self.now.commits) }
+    {
+        match &self.tables {
+            Some(tables) => Ok(tables.as_slice()),
+            None => Err(Memory),
+        }
     }
 
     /// A commit more, at the engine's moment, and what it makes of the tables.
@@ -67,13 +83,16 @@ impl Engine {
     pub fn commit(&mut self, alloc: Global, body: CommitBody) -> Result<(), Memory>
         ensures { OnOk result (world_in self.new ≡ with_commit body (world_in self.old)) }
     {
-        let before = copy_tables(alloc, self.tables.as_slice())?;
+        self.view = None;
+        let Some(before) = self.tables.take() else {
+            return Err(Memory);
+        };
         let tables = with_body(alloc, before, &body)?;
         self.commits.push(Commit {
             moment: self.moment,
             body,
         })?;
-        self.tables = tables;
+        self.tables = Some(tables);
         Ok(())
     }
 
@@ -91,6 +110,7 @@ impl Engine {
     pub fn commit_txn(&mut self, alloc: Global) -> Result<(), Memory>
         ensures { OnOk result (world_in self.new ≡ committed (world_in self.old)) }
     {
+        self.view = None;
         match self.here.txn.take() {
             None => Ok(()),
             Some(txn) => self.commit_rows(alloc, txn.changes),
@@ -108,11 +128,14 @@ impl Engine {
     pub fn keep(&mut self, alloc: Global, changes: ChangeList) -> Result<(), Memory>
         ensures { OnOk result (world_in self.new ≡ keeping changes (world_in self.old)) }
     {
+        let view = self.view.take();
         match self.here.txn.take() {
             None => self.commit_rows(alloc, changes),
             Some(mut txn) => {
+                let view = changed_view(alloc, view, changes.as_slice())?;
                 txn.changes.append(changes)?;
-                self.set_txn(Some(txn));
+                self.here.txn = Some(txn);
+                self.view = view;
                 Ok(())
             }
         }
@@ -149,13 +172,29 @@ impl Engine {
         ensures { OnOk result (world_in self.new ≡ entered table.now (world_in self.old)) }
     {
         let commits = self.commits.len() as u64;
+        let view = self.view.take();
         match self.here.txn.take() {
             None => Ok(()),
             Some(txn) => {
-                self.set_txn(Some(using(alloc, table, commits, txn)?));
+                self.here.txn = Some(using(alloc, table, commits, txn)?);
+                self.view = view;
                 Ok(())
             }
         }
+    }
+}
+
+/// A view after these changes, where it is kept.
+fn changed_view(
+    alloc: Global,
+    view: Option<TableList>,
+    changes: &[Change],
+) -> Result<Option<TableList>, Memory>
+    ensures { IfOk result (λ after. after ≡ option_map (λ tables. changes_done tables changes.now) view) }
+{
+    match view {
+        None => Ok(None),
+        Some(tables) => Ok(Some(with_changes(alloc, tables, changes)?)),
     }
 }
 

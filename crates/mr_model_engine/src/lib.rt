@@ -8,5 +8,5 @@ mod seen;
 mod views;
 
 pub use engine::{Building, Engine, NextNumber, fresh_session};
-pub use seen::{changed_later, changes_of_txn, held_elsewhere, is_stale, rows_seen};
+pub use seen::{changed_later, changes_of_txn, held_elsewhere, is_stale, keep_view, rows_seen};
 pub use views::{building_of, committed_table, number_of, table_in, used_elsewhere};

@@ -120,12 +120,13 @@ impl Engine {
         let tables = replay(alloc, commits.as_slice())?;
         Ok(Engine {
             commits,
-            tables,
+            tables: Some(tables),
             here: fresh_session(alloc, b"main")?,
             others: Items::new(alloc),
             building: Items::new(alloc),
             numbers,
             moment,
+            view: None,
         })
     }
 }

@@ -1,11 +1,12 @@
 //! What the current session sees: commits, tables and rows, and the changes that it must not meet.
 
-ghost use Rattle.std.specs.Prelude.{◌≡◌, min, take, length, IfOk, IsTrue};
+ghost use Rattle.std.specs.Prelude.{◌≡◌, [], min, take, length, IfOk, OnOk, IsTrue};
+ghost use Rattle.std.specs.Option.{option_map_or};
 ghost use Rattle.std.specs.List.{list_any};
-ghost use Rattle.mr_spec.specs.Database.{defines as defined_by, changes_in as changes_of_body, changes_of as changes_of_commits, on_table as of_table};
+ghost use Rattle.mr_spec.specs.Database.{defines as defined_by, changes_in as changes_of_body, changes_of as changes_of_commits, on_table as of_table, table_of as table_in};
 ghost use Rattle.mr_spec.specs.World.{seen_by, changes_by, view_of, later_commits as later_of, is_stale as has_stale, held_changes as changes_held};
 ghost use Rattle.mr_spec.specs.RowSteps.{rows_seen as rows_in_view};
-ghost use Rattle.mr_model_engine.specs.Worlds.{world_in};
+ghost use Rattle.mr_model_engine.specs.Worlds.{keeps_view, world_in};
 
 use crate::engine::Engine;
 use mr_base::Memory;
@@ -13,8 +14,8 @@ use mr_model_rows::{
     copy_change, copy_changes, copy_rows, copy_tables, defines, replay, table_name, table_of,
     with_changes,
 };
-use mr_spec::{RowList, Session, TableList, Txn};
-use mr_types::{Change, ChangeList, Commit, CommitBody};
+use mr_spec::{Session, Table, TableList, Txn};
+use mr_types::{Change, ChangeList, Commit, CommitBody, Row};
 use std::alloc::Global;
 use std::cmp::min;
 
@@ -87,21 +88,47 @@ fn view(alloc: Global, engine: &Engine) -> Result<TableList, Memory>
 {
     let changes = changes_of_txn(&engine.here.txn);
     let tables = if sees_all(engine) {
-        copy_tables(alloc, engine.tables.as_slice())?
+        copy_tables(alloc, engine.tables()?)?
     } else {
         replay(alloc, seen_commits(engine))?
     };
     with_changes(alloc, tables, changes)
 }
 
-/// The rows of a table in the current session's view, expired ones too.
-pub fn rows_seen(alloc: Global, engine: &Engine, name: &[u8]) -> Result<RowList, Memory>
-    ensures { IfOk result (λ rows. rows ≡ rows_in_view name.now (world_in engine.now)) }
+/// The session's transaction, if there is one, keeps what it sees.
+pub fn keep_view(alloc: Global, engine: &mut Engine) -> Result<(), Memory>
+    ensures world { OnOk result (world_in engine.new ≡ world_in engine.old) }
+    ensures kept { OnOk result (IsTrue (keeps_view engine.new)) }
 {
-    let tables = view(alloc, engine)?;
-    match table_of(name, tables.as_slice()) {
-        None => Ok(RowList::new(alloc)),
-        Some(table) => copy_rows(alloc, table.rows.as_slice()),
+    if engine.here.txn.is_some() && engine.view.is_none() {
+        let tables = view(alloc, engine)?;
+        engine.view = Some(tables);
+    }
+    Ok(())
+}
+
+/// The rows of the table of this name among these, none where there is none.
+fn rows_among<'a>(name: &[u8], tables: &'a [Table]) -> &'a [Row]
+    ensures { result.now ≡ option_map_or (λ t. t.rows) (table_in name.now tables.now) [] }
+{
+    match table_of(name, tables) {
+        None => &[],
+        Some(table) => table.rows.as_slice(),
+    }
+}
+
+/// The rows of a table in the current session's view, expired ones too.
+#[tactic(auto, using(crate::proofs::Current::all_of))]
+pub fn rows_seen<'a>(engine: &'a Engine, name: &[u8]) -> Result<&'a [Row], Memory>
+    requires kept { IsTrue (keeps_view engine.now) }
+    ensures { IfOk result (λ rows. rows.now ≡ rows_in_view name.now (world_in engine.now)) }
+{
+    match &engine.here.txn {
+        None => Ok(rows_among(name, engine.tables()?)),
+        Some(_) => match &engine.view {
+            Some(tables) => Ok(rows_among(name, tables.as_slice())),
+            None => Err(Memory),
+        },
     }
 }
 

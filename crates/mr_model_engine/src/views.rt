@@ -18,13 +18,10 @@ use mr_types::{IndexDef, Refused};
 use std::alloc::Global;
 
 /// The committed table of this name.
-pub fn committed_table(alloc: Global, engine: &Engine, name: &[u8]) -> Result<Option<Table>, Memory>
-    ensures { IfOk result (λ t. t ≡ table_found name.now (replay_of engine.now.commits)) }
+pub fn committed_table<'a>(engine: &'a Engine, name: &[u8]) -> Result<Option<&'a Table>, Memory>
+    ensures { IfOk result (λ t. option_copied t ≡ table_found name.now (replay_of engine.now.commits)) }
 {
-    match table_of(name, engine.tables.as_slice()) {
-        None => Ok(None),
-        Some(table) => Ok(Some(copy_table(alloc, table)?)),
-    }
+    Ok(table_of(name, engine.tables()?))
 }
 
 /// The committed table of this name, else 1146.
@@ -33,8 +30,8 @@ pub fn table_in(alloc: Global, engine: &Engine, name: &[u8]) -> Result<Table, Re
     ensures answers { Answers result (table_there (world_in engine.now) name.now) }
     ensures few { FewColumns engine.now.commits → IfOk result (λ t. length t.def.columns ≤ 255) }
 {
-    match committed_table(alloc, engine, name)? {
-        Some(table) => Ok(table),
+    match committed_table(engine, name)? {
+        Some(table) => Ok(copy_table(alloc, table)?),
         None => Err(Refused::Sql(1146)),
     }
 }

@@ -2,6 +2,9 @@
 use Rattle.std.proofs.Common.{◌≡◌, ◌≤◌, ◌<◌, ℕ, ◌+◌, not-suc-le-zero, add-one, le_of_suc-le-suc, le_trans, le_of_eq, le-add_right, Bool, false, true, not, zero, suc, List, [], ◌∷◌, ◌++◌, if◌then◌else◌, length, take, drop, filter, map, min, reverse, remove, slice_index_or, length-append, append_assoc, le_antisymm, sym, ap, subst, ◌∙◌}
 use Rattle.mr_types.specs.declared.row.Row.{Row}
 use Rattle.mr_types.specs.declared.definition.TableDef.{TableDef}
+use Rattle.mr_spec.specs.declared.world.Table.{Table}
+use Rattle.mr_spec.specs.Database.{is_table}
+use Rattle.mr_model_rows.specs.Keyed.{tables_without}
 use Rattle.mr_spec.specs.Rows.{same_primary, without}
 use Rattle.std.proofs.Math.Nat.{le-min}
 use Rattle.std.proofs.Math.Seq.{take-append_seam, drop-append_seam}
@@ -25,6 +28,13 @@ skipped_row def gone n rows row h i e = skipped (λ r. not (same_primary def gon
 
 pub passed_row : (def : TableDef) (gone : Row) (n : ℕ) (rows : List Row) (row : Row) → n < length rows → row ≡ slice_index_or rows n row → false ≡ same_primary def gone row → take (n + 1) rows ++ without def gone (drop (n + 1) rows) ≡ take n rows ++ without def gone (drop n rows)
 passed_row def gone n rows row h i e = subst (λ m. take m rows ++ without def gone (drop m rows) ≡ take n rows ++ without def gone (drop n rows)) (sym (add-one n)) (passed (λ r. not (same_primary def gone r)) n rows row h i (sym (ap not e)))
+
+-- and for tables of a name, and others
+pub skipped_table : (name : List ℕ) (n : ℕ) (tables : List Table) (table : Table) → n < length tables → table ≡ slice_index_or tables n table → true ≡ is_table name table → take n (remove tables n) ++ tables_without name (drop n (remove tables n)) ≡ take n tables ++ tables_without name (drop n tables)
+skipped_table name n tables table h i e = skipped (λ t. not (is_table name t)) n tables table h i (sym (ap not e))
+
+pub passed_table : (name : List ℕ) (n : ℕ) (tables : List Table) (table : Table) → n < length tables → table ≡ slice_index_or tables n table → false ≡ is_table name table → take (n + 1) tables ++ tables_without name (drop (n + 1) tables) ≡ take n tables ++ tables_without name (drop n tables)
+passed_table name n tables table h i e = subst (λ m. take m tables ++ tables_without name (drop m tables) ≡ take n tables ++ tables_without name (drop n tables)) (sym (add-one n)) (passed (λ t. not (is_table name t)) n tables table h i (sym (ap not e)))
 
 -- ---- from the end
 

@@ -18,3 +18,7 @@ table_with t key = record t { def = record t.def { secondary = t.def.secondary +
 -- without the key of this name
 abbrev pub table_without : Table → List ℕ → Table
 table_without t name = record t { def = record t.def { secondary = filter (λ k. not (is_named name k)) t.def.secondary } }
+
+-- the tables but for those of this name
+abbrev pub tables_without : List ℕ → List Table → List Table
+tables_without name tables = filter (λ t. not (is_table name t)) tables

@@ -1,10 +1,10 @@
 //! Tables, and what commits make of them.
 
-ghost use Rattle.std.specs.Prelude.{◌≡◌, ◌++◌, ◌∷◌, [], IfOk, not, filter};
+ghost use Rattle.std.specs.Prelude.{◌≡◌, ◌++◌, ◌∷◌, [], IfOk, not, filter, if◌then◌else◌};
 ghost use Rattle.std.specs.Option.{option_copied};
 ghost use Rattle.mr_types.specs.declared.row.Schema.TheVariants as schema;
 ghost use Rattle.mr_types.specs.Values.{same_bytes};
-ghost use Rattle.mr_model_rows.specs.Keyed.{table_after as table_behind, table_with, table_without};
+ghost use Rattle.mr_model_rows.specs.Keyed.{table_after as table_behind, table_with, table_without, tables_without as tables_but};
 ghost use Rattle.mr_spec.specs.KeyChecks.{is_named as has_name};
 ghost use Rattle.mr_spec.specs.Rows.{table_name as name_of, rows_after as rows_behind};
 ghost use Rattle.mr_spec.specs.Database.{is_table as has_table_name, table_of as table_in, changed as change_done, with_changes as changes_done, with_schema as schema_done, with_body as body_done, with_commits as commits_done, replay as replay_of, schema_table as schema_table_of, defines as defined_by};
@@ -110,10 +110,10 @@ pub fn with_changes(
 
 // ---- changes of the schema
 
-fn with_table(alloc: Global, tables: &[Table], def: &TableDef) -> Result<TableList, Memory>
-    ensures { IfOk result (λ all. all ≡ tables.now ++ record { def = def.now; rows = [] } ∷ []) }
+fn with_table(alloc: Global, tables: TableList, def: &TableDef) -> Result<TableList, Memory>
+    ensures { IfOk result (λ all. all ≡ tables ++ record { def = def.now; rows = [] } ∷ []) }
 {
-    let mut all = copy_tables(alloc, tables)?;
+    let mut all = tables;
     all.push(Table {
         def: def.copy(alloc)?,
         rows: RowList::new(alloc),
@@ -121,45 +121,51 @@ fn with_table(alloc: Global, tables: &[Table], def: &TableDef) -> Result<TableLi
     Ok(all)
 }
 
-fn without_table(alloc: Global, tables: &[Table], name: &[u8]) -> Result<TableList, Memory>
-    ensures { IfOk result (λ all. all ≡ filter (λ t. not (has_table_name name.now t)) tables.now) }
+#[tactic(auto, using(crate::proofs::Moved::skipped_table, crate::proofs::Moved::passed_table))]
+fn without_table(tables: TableList, name: &[u8]) -> TableList
+    ensures { result ≡ tables_but name.now tables }
 {
-    let mut all = TableList::new(alloc);
-    for table in tables {
-        if !is_table(name, table) {
-            all.push(copy_table(alloc, table)?)?;
+    let mut kept = tables;
+    let mut at = 0;
+    while at < kept.len() {
+        if is_table(name, &kept.as_slice()[at]) {
+            let _gone = kept.remove(at);
+        } else {
+            at += 1;
         }
     }
-    Ok(all)
+    kept
 }
 
-/// The table with a key more.
-fn and_key(alloc: Global, table: &Table, key: &IndexDef) -> Result<Table, Memory>
-    ensures { IfOk result (λ t. t ≡ table_with table.now key.now) }
+/// The table with a key more, where it has the name.
+fn and_key(alloc: Global, table: Table, name: &[u8], key: &IndexDef) -> Result<Table, Memory>
+    ensures { IfOk result (λ t. t ≡ (if has_table_name name.now table then table_with table key.now else table)) }
 {
+    if !is_table(name, &table) {
+        return Ok(table);
+    }
+    let Table { def, rows } = table;
     Ok(Table {
-        def: table.def.with_key(alloc, key)?,
-        rows: copy_rows(alloc, table.rows.as_slice())?,
+        def: def.with_key(alloc, key)?,
+        rows,
     })
 }
 
+#[tactic(auto, using(crate::proofs::Moved::carried))]
 fn with_index(
     alloc: Global,
-    tables: &[Table],
+    tables: TableList,
     name: &[u8],
     key: &IndexDef,
 ) -> Result<TableList, Memory>
-    ensures { IfOk result (λ all. all ≡ schema_done tables.now (schema.CreateIndex name.now key.now)) }
+    ensures { IfOk result (λ all. all ≡ schema_done tables (schema.CreateIndex name.now key.now)) }
 {
-    let mut all = TableList::new(alloc);
-    for table in tables {
-        if is_table(name, table) {
-            all.push(and_key(alloc, table, key)?)?;
-        } else {
-            all.push(copy_table(alloc, table)?)?;
-        }
+    let mut before = tables;
+    let mut after = TableList::new(alloc);
+    'tables: while let Some(table) = before.pop() {
+        after.push(and_key(alloc, table, name, key)?)?;
     }
-    Ok(all)
+    take_off(alloc, &mut after, 0)
 }
 
 fn other_keys(alloc: Global, keys: &[IndexDef], name: &[u8]) -> Result<IndexList, Memory>
@@ -174,43 +180,43 @@ fn other_keys(alloc: Global, keys: &[IndexDef], name: &[u8]) -> Result<IndexList
     Ok(all)
 }
 
-/// The table without the keys of a name.
-fn but_key(alloc: Global, table: &Table, name: &[u8]) -> Result<Table, Memory>
-    ensures { IfOk result (λ t. t ≡ table_without table.now name.now) }
+/// The table without the keys of a name, where it has that of the table.
+fn but_key(alloc: Global, table: Table, name: &[u8], key: &[u8]) -> Result<Table, Memory>
+    ensures { IfOk result (λ t. t ≡ (if has_table_name name.now table then table_without table key.now else table)) }
 {
-    let mut def = table.def.copy(alloc)?;
-    def.secondary = other_keys(alloc, table.def.secondary.as_slice(), name)?;
-    Ok(Table {
-        def,
-        rows: copy_rows(alloc, table.rows.as_slice())?,
-    })
+    if !is_table(name, &table) {
+        return Ok(table);
+    }
+    let Table { def, rows } = table;
+    let secondary = other_keys(alloc, def.secondary.as_slice(), key)?;
+    let mut def = def;
+    def.secondary = secondary;
+    Ok(Table { def, rows })
 }
 
+#[tactic(auto, using(crate::proofs::Moved::carried))]
 fn without_index(
     alloc: Global,
-    tables: &[Table],
+    tables: TableList,
     name: &[u8],
     key: &[u8],
 ) -> Result<TableList, Memory>
-    ensures { IfOk result (λ all. all ≡ schema_done tables.now (schema.DropIndex name.now key.now)) }
+    ensures { IfOk result (λ all. all ≡ schema_done tables (schema.DropIndex name.now key.now)) }
 {
-    let mut all = TableList::new(alloc);
-    for table in tables {
-        if is_table(name, table) {
-            all.push(but_key(alloc, table, key)?)?;
-        } else {
-            all.push(copy_table(alloc, table)?)?;
-        }
+    let mut before = tables;
+    let mut after = TableList::new(alloc);
+    'tables: while let Some(table) = before.pop() {
+        after.push(but_key(alloc, table, name, key)?)?;
     }
-    Ok(all)
+    take_off(alloc, &mut after, 0)
 }
 
-fn with_schema(alloc: Global, tables: &[Table], change: &Schema) -> Result<TableList, Memory>
-    ensures { IfOk result (λ all. all ≡ schema_done tables.now change.now) }
+fn with_schema(alloc: Global, tables: TableList, change: &Schema) -> Result<TableList, Memory>
+    ensures { IfOk result (λ all. all ≡ schema_done tables change.now) }
 {
     match change {
         Schema::CreateTable(def) => with_table(alloc, tables, def),
-        Schema::DropTable(name) => without_table(alloc, tables, name.as_slice()),
+        Schema::DropTable(name) => Ok(without_table(tables, name.as_slice())),
         Schema::CreateIndex(name, key) => with_index(alloc, tables, name.as_slice(), key),
         Schema::DropIndex(name, key) => {
             without_index(alloc, tables, name.as_slice(), key.as_slice())
@@ -226,7 +232,7 @@ pub fn with_body(alloc: Global, tables: TableList, body: &CommitBody) -> Result<
 {
     match body {
         CommitBody::Rows(changes) => with_changes(alloc, tables, changes.as_slice()),
-        CommitBody::Schema(change) => with_schema(alloc, tables.as_slice(), change),
+        CommitBody::Schema(change) => with_schema(alloc, tables, change),
     }
 }
 

@@ -1,7 +1,7 @@
 //! How heavy changes are. Each sum stops at `PAST`, since all that is asked is whether it is above
 //! the bound.
 
-ghost use Rattle.std.specs.Prelude.{◌≡◌, ◌+◌, ◌*◌, length, min, nat_lt, sum_by};
+ghost use Rattle.std.specs.Prelude.{◌≡◌, ◌≤◌, ◌+◌, ◌*◌, ◌++◌, length, min, nat_lt, sum_by};
 ghost use Rattle.mr_spec.specs.Rows.{rows_of};
 ghost use Rattle.mr_spec.specs.Weight.{given_size as size_given, value_size as size_of_value, values_size as size_of_values, row_size as size_of_row, weight_of as weight_in, secondary_count as count_of_secondary, total_weight};
 
@@ -86,14 +86,24 @@ fn secondary_count(tables: &[Table], name: &[u8]) -> usize
     }
 }
 
-/// Whether these changes together weigh more than a commit may: 67,108,864.
-pub fn is_too_heavy(tables: &[Table], changes: &[Change]) -> bool
-    ensures { result ≡ nat_lt 67108864 (total_weight tables.now changes.now) }
+/// The weight of these changes and one of others before them, `PAST` where it is greater.
+fn weight_behind(tables: &[Table], before: u64, changes: &[Change]) -> u64
+    requires within { before ≤ 67108865 }
+    ensures { result ≡ min 67108865 (before + total_weight tables.now changes.now) }
 {
-    let mut weight = 0;
+    let mut weight = before;
     for change in changes {
         let secondary = secondary_count(tables, table_name(change).as_slice());
         weight = sum_within(weight, weight_of(secondary, change));
     }
+    weight
+}
+
+/// Whether these changes and more together weigh more than a commit may: 67,108,864.
+#[tactic(auto, using(crate::proofs::Weighed::both))]
+pub fn is_too_heavy(tables: &[Table], changes: &[Change], more: &[Change]) -> bool
+    ensures { result ≡ nat_lt 67108864 (total_weight tables.now (changes.now ++ more.now)) }
+{
+    let weight = weight_behind(tables, weight_behind(tables, 0, changes), more);
     weight == PAST
 }

@@ -1,6 +1,6 @@
 -- A table that a statement on rows opens.
-use Rattle.std.specs.Prelude.{◌≡◌, ℕ, List, Result, Ok, Err}
-use Rattle.mr_base.specs.declared.stop.Memory.{Memory as NoMemory}
+use Rattle.std.specs.Prelude.{◌≡◌, ℕ, List, [], Result, Ok, Err}
+use Rattle.mr_types.specs.declared.definition.TableDef.{TableDef}
 use Rattle.mr_types.specs.declared.refused.Refused.{Refused}
 use Rattle.mr_types.specs.declared.refused.Refused.TheVariants.{Memory, Sql}
 use Rattle.mr_spec.specs.declared.progress.Progress.{Progress}
@@ -15,9 +15,14 @@ use Rattle.mr_spec.specs.World.{World}
 use Rattle.mr_model_statements.specs.declared.row_steps.Writing.{Writing}
 use Rattle.mr_model_statements.specs.declared.row_steps.Writing.TheVariants.{Insert, Replace, Update, Delete}
 
--- whatever the statement does, it does it to this table in the world behind, or it is refused there
-abbrev pub Opens : World → World → List ℕ → Result Table Refused → Type 0
-Opens before after name (Ok t) = (act : Table → World → Outcome) → on_rows name act before ≡ act t after
+-- a table of this definition, without rows
+abbrev pub bare : TableDef → Table
+bare def = record { def = def; rows = [] }
+
+-- Whatever the statement does, it does it to a table of this definition in the world behind, or it is refused there. What
+-- it does looks at no rows of that table, but at those of the session's view.
+abbrev pub Opens : World → World → List ℕ → Result TableDef Refused → Type 0
+Opens before after name (Ok def) = (act : Table → World → Outcome) → ((t : Table) → act t ≡ act (bare t.def)) → on_rows name act before ≡ act (bare def) after
 Opens before after name (Err (Sql code)) = (act : Table → World → Outcome) → on_rows name act before ≡ refused after code
 Opens before after name (Err Memory) = Unit {0}
 

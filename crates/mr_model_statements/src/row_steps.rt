@@ -1,46 +1,62 @@
 //! Statements on the rows of a table.
 
-ghost use Rattle.std.specs.Prelude.{◌≡◌, ◌++◌, nat_lt, Result, IfOk};
+ghost use Rattle.std.specs.Prelude.{◌≡◌, ◌++◌, nat_lt, Result, IfOk, OnOk, IsTrue};
 ghost use Rattle.mr_spec.specs.declared.progress.Progress.{Progress as SoFar};
 ghost use Rattle.mr_spec.specs.declared.progress.Refusal.{Refusal as Refusing};
-ghost use Rattle.mr_spec.specs.Database.{replay as replay_of};
+ghost use Rattle.std.specs.Option.{option_map};
+ghost use Rattle.mr_spec.specs.Database.{table_of, replay as replay_of};
 ghost use Rattle.mr_spec.specs.Outcome.{Outcome, answered as answered_in};
-ghost use Rattle.mr_spec.specs.RowSteps.{on_rows, select_answer, select_outcome, start_of as start_in, scene_of, not_too_heavy, written as written_by, after_rows as behind_rows, write_outcome};
+ghost use Rattle.mr_spec.specs.RowSteps.{on_rows, select_answer, select_outcome, start_of as start_in, scene_of, written as written_by, after_rows as behind_rows, write_outcome};
 ghost use Rattle.mr_spec.specs.Truth.{where_of};
 ghost use Rattle.mr_spec.specs.Weight.{total_weight};
 ghost use Rattle.mr_spec.specs.World.{changes_by};
 ghost use Rattle.mr_model_engine.specs.Acting.{Acts, Gives};
-ghost use Rattle.mr_model_statements.specs.Opening.{Opens, changes_by_writing};
+ghost use Rattle.mr_model_statements.specs.Left.{left_light, behind_left};
+ghost use Rattle.mr_model_statements.specs.Opening.{bare, Opens, changes_by_writing};
+ghost use Rattle.mr_model_changes.specs.Leaving.{leaves, start_among};
 ghost use Rattle.mr_model_changes.specs.Telling.{Tells, scene_in};
-ghost use Rattle.mr_model_engine.specs.Worlds.{world_in};
+ghost use Rattle.mr_model_engine.specs.Worlds.{keeps_view, world_in};
 ghost use Rattle.std.specs.Prelude.{ℕ};
 
 use mr_base::Memory;
 use mr_model_changes::{
-    Failed, Scene, delete_changes, insert_changes, replace_changes, update_changes,
+    Failed, Scene, Written, delete_changes, insert_changes, insert_one, left_of_progress,
+    replace_changes, update_changes,
 };
 use mr_model_engine::{
-    Engine, changed_later, changes_of_txn, committed_table, held_elsewhere, is_stale, number_of,
-    rows_seen,
+    Engine, changed_later, changes_of_txn, committed_table, held_elsewhere, is_stale, keep_view,
+    number_of, rows_seen,
 };
-use mr_model_rows::{copy_changes, is_too_heavy, visible};
+use mr_model_rows::{copy_rows, is_too_heavy, visible};
 use mr_model_select::{select_tests, selected};
-use mr_spec::{Progress, Refusal, Table};
-use mr_types::{Change, ChangeList, Expr, Insert, Refused, Reply, Select, SetItem};
+use mr_spec::{Progress, Refusal};
+use mr_types::{Change, ChangeList, Expr, Insert, Refused, Reply, Row, Select, SetItem, TableDef};
 use std::alloc::Global;
 
-/// 1146; then the snapshot is fixed and the table used; then 1412.
-fn open_table(alloc: Global, engine: &mut Engine, name: &[u8]) -> Result<Table, Refused>
-    ensures { Opens (world_in engine.old) (world_in engine.new) name.now result }
+/// The definition of the committed table of this name.
+fn committed_def(alloc: Global, engine: &Engine, name: &[u8]) -> Result<Option<TableDef>, Memory>
+    ensures { IfOk result (λ def. def ≡ option_map (λ t. t.def) (table_of name.now (replay_of engine.now.commits))) }
 {
-    let Some(table) = committed_table(alloc, engine, name)? else {
+    match committed_table(engine, name)? {
+        None => Ok(None),
+        Some(table) => Ok(Some(table.def.copy(alloc)?)),
+    }
+}
+
+/// 1146; then the snapshot is fixed and the table used; then 1412.
+fn open_table(alloc: Global, engine: &mut Engine, name: &[u8]) -> Result<TableDef, Refused>
+    ensures opens { Opens (world_in engine.old) (world_in engine.new) name.now result }
+    ensures kept { OnOk result (IsTrue (keeps_view engine.new)) }
+{
+    let Some(def) = committed_def(alloc, engine, name)? else {
         return Err(Refused::Sql(1146));
     };
     engine.enter(alloc, name)?;
     if is_stale(name, engine) {
         return Err(Refused::Sql(1412));
     }
-    Ok(table)
+    keep_view(alloc, engine)?;
+    Ok(def)
 }
 
 /// An answer as an outcome.
@@ -60,15 +76,16 @@ pub fn answered(answer: Result<Reply, Refused>) -> Result<Reply, Memory>
 fn select_in(
     alloc: Global,
     engine: &Engine,
-    table: &Table,
+    def: &TableDef,
     select: &Select,
 ) -> Result<Reply, Refused>
-    ensures { Acts engine.now engine.now result (select_answer select.now (where_of select.now.condition) table.now (world_in engine.now)) }
+    requires kept { IsTrue (keeps_view engine.now) }
+    ensures { Acts engine.now engine.now result (select_answer select.now (where_of select.now.condition) (bare def.now) (world_in engine.now)) }
 {
-    select_tests(alloc, &table.def, select)?;
-    let rows = rows_seen(alloc, engine, select.table.as_slice())?;
-    let rows = visible(alloc, &table.def, engine.moment, rows.as_slice())?;
-    Ok(Reply::Rows(selected(alloc, &table.def, select, rows.as_slice())?))
+    select_tests(alloc, def, select)?;
+    let rows = rows_seen(engine, select.table.as_slice())?;
+    let rows = visible(alloc, def, engine.moment, rows)?;
+    Ok(Reply::Rows(selected(alloc, def, select, rows.as_slice())?))
 }
 
 /// SELECT. It changes no rows.
@@ -76,7 +93,7 @@ pub fn select(alloc: Global, engine: &mut Engine, select: &Select) -> Result<Rep
     ensures { Gives engine.new result (on_rows select.now.table (select_outcome select.now (where_of select.now.condition)) (world_in engine.old)) }
 {
     match open_table(alloc, engine, select.table.as_slice()) {
-        Ok(table) => answered(select_in(alloc, engine, &table, select)),
+        Ok(def) => answered(select_in(alloc, engine, &def, select)),
         Err(Refused::Sql(code)) => Ok(Reply::Refused(code)),
         Err(Refused::Memory) => Err(Memory),
     }
@@ -111,71 +128,100 @@ fn changes_of(
     }
 }
 
-/// Before the first row.
-fn start_of(alloc: Global, engine: &Engine, table: &Table) -> Result<Progress, Memory>
-    ensures { IfOk result (λ g. g ≡ start_in table.now (world_in engine.now)) }
+/// What it leaves, worked out on a copy of these rows.
+fn left_on_copy(
+    alloc: Global,
+    scene: &Scene,
+    writing: Writing,
+    rows: &[Row],
+    next: u64,
+) -> Result<Written, Failed>
+    ensures { Tells result (leaves (changes_by_writing writing.entry (scene_in scene.now) (start_among rows.now next))) }
 {
-    Ok(Progress {
-        rows: rows_seen(alloc, engine, table.def.name.as_slice())?,
+    let start = Progress {
+        rows: copy_rows(alloc, rows)?,
         changes: ChangeList::new(alloc),
-        next: number_of(engine, table.def.name.as_slice()),
+        next,
         count: 0,
-    })
+    };
+    let progress = changes_of(alloc, scene, writing, start)?;
+    Ok(left_of_progress(progress))
+}
+
+/// What it leaves. INSERT of one tuple needs no copy of the rows.
+fn left_among(
+    alloc: Global,
+    scene: &Scene,
+    writing: Writing,
+    rows: &[Row],
+    next: u64,
+) -> Result<Written, Failed>
+    ensures { Tells result (leaves (changes_by_writing writing.entry (scene_in scene.now) (start_among rows.now next))) }
+{
+    if let Writing::Insert(statement) = writing {
+        if statement.rows.len() == 1 {
+            return insert_one(alloc, scene, statement, rows, next);
+        }
+    }
+    left_on_copy(alloc, scene, writing, rows, next)
 }
 
 /// Whether the transaction's changes, with these, are too heavy.
-fn are_too_heavy(alloc: Global, engine: &Engine, changes: &[Change]) -> Result<bool, Memory>
+fn are_too_heavy(engine: &Engine, changes: &[Change]) -> Result<bool, Memory>
     ensures { IfOk result (λ b. b ≡ nat_lt 67108864 (total_weight (replay_of engine.now.commits) (changes_by engine.now.here.txn ++ changes.now))) }
 {
-    let mut all = copy_changes(alloc, changes_of_txn(&engine.here.txn))?;
-    all.append(copy_changes(alloc, changes)?)?;
-    Ok(is_too_heavy(engine.tables.as_slice(), all.as_slice()))
+    let before = changes_of_txn(&engine.here.txn);
+    Ok(is_too_heavy(engine.tables()?, before, changes))
 }
 
 /// 1197 behind the last row: the transaction's changes are too heavy.
-fn not_heavy(alloc: Global, engine: &Engine, progress: Progress) -> Result<Progress, Failed>
-    ensures { Tells result (not_too_heavy (world_in engine.now) progress) }
+fn not_heavy(engine: &Engine, written: Written) -> Result<Written, Failed>
+    ensures { Tells result (left_light (world_in engine.now) written) }
 {
-    if are_too_heavy(alloc, engine, progress.changes.as_slice())? {
+    if are_too_heavy(engine, written.changes.as_slice())? {
         return Err(Failed::Refused(Refusal {
             code: 1197,
-            next: progress.next,
+            next: written.next,
         }));
     }
-    Ok(progress)
+    Ok(written)
 }
 
-/// The changes of all rows, from the start, among the claims of others.
+/// What all rows leave, from the start, among the claims of others.
 fn all_changes(
     alloc: Global,
     engine: &Engine,
-    table: &Table,
+    def: &TableDef,
     writing: Writing,
-) -> Result<Progress, Failed>
-    ensures { Tells result (changes_by_writing writing.entry (scene_of table.now (world_in engine.now)) (start_in table.now (world_in engine.now))) }
+) -> Result<Written, Failed>
+    requires kept { IsTrue (keeps_view engine.now) }
+    ensures { Tells result (leaves (changes_by_writing writing.entry (scene_of (bare def.now) (world_in engine.now)) (start_in (bare def.now) (world_in engine.now)))) }
 {
-    let held = held_elsewhere(alloc, engine, table.def.name.as_slice())?;
-    let changed = changed_later(alloc, engine, table.def.name.as_slice())?;
-    let start = start_of(alloc, engine, table)?;
+    let held = held_elsewhere(alloc, engine, def.name.as_slice())?;
+    let changed = changed_later(alloc, engine, def.name.as_slice())?;
     let scene = Scene {
-        def: &table.def,
+        def,
         moment: engine.moment,
         held: held.as_slice(),
         changed: changed.as_slice(),
     };
-    changes_of(alloc, &scene, writing, start)
+    let rows = rows_seen(engine, def.name.as_slice())?;
+    let next = number_of(engine, def.name.as_slice());
+    left_among(alloc, &scene, writing, rows, next)
 }
 
+#[tactic(auto, using(crate::proofs::Left::left_written))]
 fn written(
     alloc: Global,
     engine: &Engine,
-    table: &Table,
+    def: &TableDef,
     writing: Writing,
-) -> Result<Progress, Failed>
-    ensures { Tells result (written_by (changes_by_writing writing.entry) table.now (world_in engine.now)) }
+) -> Result<Written, Failed>
+    requires kept { IsTrue (keeps_view engine.now) }
+    ensures { Tells result (leaves (written_by (changes_by_writing writing.entry) (bare def.now) (world_in engine.now))) }
 {
-    let progress = all_changes(alloc, engine, table, writing)?;
-    not_heavy(alloc, engine, progress)
+    let written = all_changes(alloc, engine, def, writing)?;
+    not_heavy(engine, written)
 }
 
 /// A refused statement leaves the engine but for the numbers it drew; 1213 ends the transaction.
@@ -185,7 +231,7 @@ fn after_refusal(
     name: &[u8],
     refusal: Refusal,
 ) -> Result<Reply, Memory>
-    ensures { Gives engine.new result (behind_rows name.now (world_in engine.old) (Err refusal)) }
+    ensures { Gives engine.new result (behind_left name.now (world_in engine.old) (Err refusal)) }
 {
     engine.set_number(alloc, name, refusal.next)?;
     if refusal.code == 1213 {
@@ -199,26 +245,27 @@ fn after_changes(
     alloc: Global,
     engine: &mut Engine,
     name: &[u8],
-    progress: Progress,
+    written: Written,
 ) -> Result<Reply, Memory>
-    ensures { Gives engine.new result (behind_rows name.now (world_in engine.old) (Ok progress)) }
+    ensures { Gives engine.new result (behind_left name.now (world_in engine.old) (Ok written)) }
 {
-    engine.set_number(alloc, name, progress.next)?;
-    engine.keep(alloc, progress.changes)?;
-    Ok(Reply::Ok(progress.count))
+    engine.set_number(alloc, name, written.next)?;
+    engine.keep(alloc, written.changes)?;
+    Ok(Reply::Ok(written.count))
 }
 
-/// What a statement's rows leave.
+/// What becomes of what a statement's rows leave.
+#[tactic(auto, using(crate::proofs::Left::left_behind))]
 fn after_rows(
     alloc: Global,
     engine: &mut Engine,
     name: &[u8],
-    written: Result<Progress, Failed>,
+    written: Result<Written, Failed>,
 ) -> Result<Reply, Memory>
-    ensures { (answer : Result SoFar Refusing) → Tells written answer → Gives engine.new result (behind_rows name.now (world_in engine.old) answer) }
+    ensures { (answer : Result SoFar Refusing) → Tells written (leaves answer) → Gives engine.new result (behind_rows name.now (world_in engine.old) answer) }
 {
     match written {
-        Ok(progress) => after_changes(alloc, engine, name, progress),
+        Ok(written) => after_changes(alloc, engine, name, written),
         Err(Failed::Refused(refusal)) => after_refusal(alloc, engine, name, refusal),
         Err(Failed::Memory) => Err(Memory),
     }
@@ -234,9 +281,9 @@ pub fn write(
     ensures { Gives engine.new result (on_rows name.now (write_outcome (changes_by_writing writing.entry)) (world_in engine.old)) }
 {
     match open_table(alloc, engine, name) {
-        Ok(table) => {
-            let written = written(alloc, engine, &table, writing);
-            after_rows(alloc, engine, table.def.name.as_slice(), written)
+        Ok(def) => {
+            let written = written(alloc, engine, &def, writing);
+            after_rows(alloc, engine, def.name.as_slice(), written)
         }
         Err(Refused::Sql(code)) => Ok(Reply::Refused(code)),
         Err(Refused::Memory) => Err(Memory),

@@ -110,8 +110,10 @@ fn with_savepoint(alloc: Global, name: &[u8], txn: Txn) -> Result<Txn, Memory>
 pub fn savepoint(alloc: Global, engine: &mut Engine, name: &[u8]) -> Result<Reply, Memory>
     ensures { Gives engine.new result (done (with_txn (option_map (savepoint_made name.now) (world_in engine.old).here.txn) (world_in engine.old)) 0) }
 {
+    let view = engine.view.take();
     if let Some(txn) = engine.here.txn.take() {
-        engine.set_txn(Some(with_savepoint(alloc, name, txn)?));
+        engine.here.txn = Some(with_savepoint(alloc, name, txn)?);
+        engine.view = view;
     }
     Ok(Reply::Ok(0))
 }
@@ -177,7 +179,9 @@ pub fn release(alloc: Global, engine: &mut Engine, name: &[u8]) -> Result<Reply,
     };
     savepoint_of(alloc, txn, name)?;
     let left = before_savepoint(alloc, name, txn)?;
-    engine.set_txn(Some(left));
+    let view = engine.view.take();
+    engine.here.txn = Some(left);
+    engine.view = view;
     Ok(Reply::Ok(0))
 }
 
@@ -228,6 +232,7 @@ fn turn_to(
 ) -> Result<(), Memory>
     ensures { OnOk result (world_in engine.new ≡ turned_to name.now sessions.now (world_in engine.old)) }
 {
+    engine.view = None;
     engine.here = session_of(alloc, name, sessions)?;
     engine.others = other_sessions(alloc, name, sessions)?;
     Ok(())

@@ -3,62 +3,13 @@
 ghost use Rattle.std.specs.Prelude.{◌≡◌, ◌∷◌, [], IfOk, pos, true, false};
 ghost use Rattle.mr_types.specs.declared.value.Value.TheVariants.{Number as ANumber, Text as AText};
 
+use crate::tables::{changed, names};
 use mr_base::{Blob, DefAnswer, Memory};
 use mr_entry::{covers, entries_of, row_of_entry};
-use mr_types::{Collation, ColumnDef, ColumnType, IndexDef, Kind, Row, TableDef, Value};
+use mr_types::{Row, Value};
 use sqlite_items::Items;
 use std::alloc::Global;
 use std::test::Fail;
-
-const BIG: Kind = Kind::BigInt;
-
-const NAME: Kind = Kind::VarChar(20, Collation::Ci);
-
-fn column_of(alloc: Global, kind: Kind, nullable: bool) -> Result<ColumnDef, Memory>
-    ensures { IfOk result (λ c. c ≡ record { name = []; ty = record { kind = kind; nullable = nullable }; default = None }) }
-{
-    Ok(ColumnDef {
-        name: Blob::from_slice(alloc, b"")?,
-        ty: ColumnType { kind, nullable },
-        default: None,
-    })
-}
-
-fn key_of(alloc: Global, places: &[u8]) -> Result<IndexDef, Memory> {
-    Ok(IndexDef {
-        name: Blob::from_slice(alloc, b"k")?,
-        columns: Blob::from_slice(alloc, places)?,
-        unique: false,
-        comment: Blob::from_slice(alloc, b"")?,
-    })
-}
-
-/// A number that is the primary key, and a text that may be NULL and has a key of its own.
-fn names(alloc: Global) -> Result<TableDef, Memory>
-    ensures columns { IfOk result (λ def. def.columns ≡ record { name = []; ty = record { kind = BIG; nullable = false }; default = None } ∷ record { name = []; ty = record { kind = NAME; nullable = true }; default = None } ∷ []) }
-    ensures key { IfOk result (λ def. def.primary.columns ≡ 0 ∷ []) }
-    ensures no_ttl { IfOk result (λ def. def.ttl ≡ None) }
-{
-    let mut columns = Items::new(alloc);
-    columns.push(column_of(alloc, BIG, false)?)?;
-    columns.push(column_of(alloc, NAME, true)?)?;
-    let mut secondary = Items::new(alloc);
-    secondary.push(key_of(alloc, b"\x01")?)?;
-    let primary = IndexDef {
-        name: Blob::from_slice(alloc, b"")?,
-        columns: Blob::from_slice(alloc, b"\x00")?,
-        unique: true,
-        comment: Blob::from_slice(alloc, b"")?,
-    };
-    Ok(TableDef::new(
-        Blob::from_slice(alloc, b"u")?,
-        columns,
-        primary,
-        secondary,
-        Blob::from_slice(alloc, b"")?,
-        None,
-    ))
-}
 
 /// The row of 3 and `Ab `.
 fn three_and_ab(alloc: Global) -> Result<Row, Memory>
@@ -148,14 +99,6 @@ const CHANGES: &[u8] = b"\
     \x12\x80\xff\x13\x01\xff\x13\x20\xff\x13\x80\xff\x14\x01\xff\x14\x20\xff\x14\x80\xff\x15\x04\xff\
     \x15\x23\xff\x15\x83\xff\x16\x01\x16\x16\x20\x16\x16\x80\x16\x17\x02\xff\x17\x21\x16\x17\x81\x16\
     \x18\x03\xff\x18\x22\x18\x18\x82\x18";
-
-fn changed(alloc: Global, bytes: &[u8], at: usize, byte: u8) -> Result<Blob, Memory> {
-    let mut copy = Blob::from_slice(alloc, bytes)?.into_vec();
-    if at < copy.len() {
-        copy[at] = byte;
-    }
-    Ok(Blob::from_vec(copy))
-}
 
 fn offence(read: Result<Row, DefAnswer>) -> u64 {
     match read {

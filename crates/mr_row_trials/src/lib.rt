@@ -6,4 +6,6 @@ mod columns;
 #[cfg(test)]
 mod entries;
 #[cfg(test)]
+mod tables;
+#[cfg(test)]
 mod values;

@@ -3,79 +3,13 @@
 ghost use Rattle.std.specs.Prelude.{◌≡◌, ◌∷◌, [], IfOk, pos, true, false};
 ghost use Rattle.mr_types.specs.declared.value.Value.TheVariants.{Null as ANull, Number as ANumber, Text as AText};
 
+use crate::tables::{changed, names, stamped};
 use mr_base::{Blob, Malformed, Memory};
 use mr_rowval::{RowRef, encode_row};
-use mr_types::{
-    Collation, ColumnDef, ColumnType, FieldRef, IndexDef, Kind, Row, TableDef, Ttl, Value,
-};
+use mr_types::{FieldRef, Row, Value};
 use sqlite_items::Items;
 use std::alloc::Global;
 use std::test::Fail;
-
-const BIG: Kind = Kind::BigInt;
-
-const NAME: Kind = Kind::VarChar(20, Collation::Ci);
-
-fn column_of(alloc: Global, kind: Kind, nullable: bool) -> Result<ColumnDef, Memory>
-    ensures { IfOk result (λ c. c ≡ record { name = []; ty = record { kind = kind; nullable = nullable }; default = None }) }
-{
-    Ok(ColumnDef {
-        name: Blob::from_slice(alloc, b"")?,
-        ty: ColumnType { kind, nullable },
-        default: None,
-    })
-}
-
-fn key_of(alloc: Global, places: &[u8]) -> Result<IndexDef, Memory>
-    ensures { IfOk result (λ k. k.columns ≡ places.now) }
-{
-    Ok(IndexDef {
-        name: Blob::from_slice(alloc, b"")?,
-        columns: Blob::from_slice(alloc, places)?,
-        unique: true,
-        comment: Blob::from_slice(alloc, b"")?,
-    })
-}
-
-/// A number that is the primary key, and a text that may be NULL.
-fn names(alloc: Global) -> Result<TableDef, Memory>
-    ensures columns { IfOk result (λ def. def.columns ≡ record { name = []; ty = record { kind = BIG; nullable = false }; default = None } ∷ record { name = []; ty = record { kind = NAME; nullable = true }; default = None } ∷ []) }
-    ensures key { IfOk result (λ def. def.primary.columns ≡ 0 ∷ []) }
-    ensures no_ttl { IfOk result (λ def. def.ttl ≡ None) }
-{
-    let mut columns = Items::new(alloc);
-    columns.push(column_of(alloc, BIG, false)?)?;
-    columns.push(column_of(alloc, NAME, true)?)?;
-    Ok(TableDef::new(
-        Blob::from_slice(alloc, b"u")?,
-        columns,
-        key_of(alloc, b"\x00")?,
-        Items::new(alloc),
-        Blob::from_slice(alloc, b"")?,
-        None,
-    ))
-}
-
-/// A number that may be NULL, a text that is the primary key, bytes that may be NULL, and the
-/// column of the stamp.
-fn stamped(alloc: Global) -> Result<TableDef, Memory> {
-    let mut columns = Items::new(alloc);
-    columns.push(column_of(alloc, Kind::Int, true)?)?;
-    columns.push(column_of(alloc, Kind::VarChar(4, Collation::Ci), false)?)?;
-    columns.push(column_of(alloc, Kind::VarBinary(3), true)?)?;
-    columns.push(column_of(alloc, Kind::BigIntUnsigned, false)?)?;
-    Ok(TableDef::new(
-        Blob::from_slice(alloc, b"s")?,
-        columns,
-        key_of(alloc, b"\x01")?,
-        Items::new(alloc),
-        Blob::from_slice(alloc, b"ttl_duration=5;ttl_col=d;")?,
-        Some(Ttl {
-            duration: 5,
-            column: Some(3),
-        }),
-    ))
-}
 
 fn offence(decoded: Result<RowRef<'_>, Malformed>) -> u64 {
     match decoded {
@@ -169,14 +103,6 @@ const CHANGES: &[u8] = b"\
     \x20\x01\x0d\x20\x20\x0d\x20\x80\x0d\x21\x01\x0d\x21\x20\x0d\x21\x80\x0d\x22\x01\x0d\x22\x20\x0d\
     \x22\x80\x0d\x23\x01\x0d\x23\x20\x0d\x23\x80\x0d\x24\x01\x0d\x24\x20\x0d\x24\x80\x0d\x25\x01\x0d\
     \x25\x20\x0d\x25\x80\x0d\x26\x01\x0d\x26\x20\x0d\x26\x80\x0d\x27\x0a\x0d\x27\x29\x0d\x27\x89\x0d";
-
-fn changed(alloc: Global, bytes: &[u8], at: usize, byte: u8) -> Result<Blob, Memory> {
-    let mut copy = Blob::from_slice(alloc, bytes)?.into_vec();
-    if at < copy.len() {
-        copy[at] = byte;
-    }
-    Ok(Blob::from_vec(copy))
-}
 
 /// Where an entry of the table offends.
 fn offence_in(alloc: Global, key: &[u8], value: &[u8]) -> Result<u64, Memory> {

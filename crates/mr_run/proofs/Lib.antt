@@ -8,5 +8,6 @@ pub mod Texts
 pub mod Feeding
 pub mod Taking
 pub mod Whole
+mod Readable
 pub mod Concluding
 pub mod Wording

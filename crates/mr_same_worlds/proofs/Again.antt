@@ -115,7 +115,7 @@ same-others ss us h = record {
 
 -- ---- one world in another dress
 
-abbrev used-by : Option Txn → List (List ℕ)
+abbrev pub used-by : Option Txn → List (List ℕ)
 used-by None = []
 used-by (Some t) = t.used
 
@@ -166,11 +166,11 @@ begun-used s us w h = elim (commits_first s) as (λ b. SameUsed us (if b then co
 moved-begun : (s : Statement) (os : List Session) (w : World) → begun s (others_in os w) ≡ others_in os (begun s w)
 moved-begun s os w = elim (commits_first s) as (λ b. (if b then committed (others_in os w) else others_in os w) ≡ others_in os (if b then committed w else w)) [ true ↦ moved-committed os w | false ↦ refl ]
 
-rows-others : (cs : List Change) (w : World) → (with_rows cs w).others ≡ w.others
+pub rows-others : (cs : List Change) (w : World) → (with_rows cs w).others ≡ w.others
 rows-others [] w = refl
 rows-others (c ∷ cs) w = refl
 
-begun-others : (s : Statement) (w : World) → (begun s w).others ≡ w.others
+pub begun-others : (s : Statement) (w : World) → (begun s w).others ≡ w.others
 begun-others s w = elim (commits_first s) as (λ b. (if b then committed w else w).others ≡ w.others) [ true ↦ rows-others (changes_by w.here.txn) w | false ↦ refl ]
 
 same-dressed : (n : List ℕ) (us : List (List ℕ)) (os : List Session) (w : World) → SameUsed us w.here.txn → SameSessions w.others os → SameWorld w (dressed n us (others_in os w))
@@ -212,7 +212,7 @@ unread-alike old new code clock h = record {
 
 -- ---- runs
 
-same-event : (old new : World) (s : Statement) (clock : ℕ) → SameWorld old new → SameOutcome (step old (Ok s) clock) (step new (Ok s) clock) → event_at new (Ok s) clock ≡ event_at old (Ok s) clock
+pub same-event : (old new : World) (s : Statement) (clock : ℕ) → SameWorld old new → SameOutcome (step old (Ok s) clock) (step new (Ok s) clock) → event_at new (Ok s) clock ≡ event_at old (Ok s) clock
 same-event old new s clock h o = λ i. record { added = drop (length (h.commits i)) (o.world.commits i); reply = o.reply i }
 
 pub run-alike : (ss : List Statement) (old new : World) (now : ℕ → ℕ) → IsTidy old → IsTidy new → SameWorld old new → AllByRecursion IsOfOne ss → trace new (all_read ss) now ≡ trace old (all_read ss) now

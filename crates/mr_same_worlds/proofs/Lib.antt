@@ -3,3 +3,4 @@ pub mod Absent
 pub mod Tidy
 pub mod Openings
 pub mod Again
+pub mod Naming

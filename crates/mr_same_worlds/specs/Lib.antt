@@ -1,1 +1,2 @@
 pub mod SameWorld
+pub mod Named

@@ -1,5 +1,5 @@
 -- Conditions are read.
-use Rattle.std.proofs.Common.{◌≡◌, ℕ, zero, suc, ◌+◌, ◌≤◌, max, List, [], ◌∷◌, ◌++◌, length, map, Bool, true, false, true≢false, not, ◌&&◌, ◌||◌, Option, Some, None, codes, arith, refl, ap, sym, subst, ◌∙◌, if◌then◌else◌, nat_le, pos, negsuc}
+use Rattle.std.proofs.Common.{◌≡◌, ℕ, zero, suc, ◌≤◌, List, [], ◌∷◌, length, map, Bool, true, false, true≢false, ◌&&◌, ◌||◌, Option, Some, None, codes, arith, refl, ap, sym, subst, ◌∙◌, nat_le}
 use Rattle.std.specs.List.{list_all}
 use Rattle.mr_lex.specs.Reading.{Lexeme}
 use Rattle.mr_types.specs.Grammatical.{is_name, is_literal, is_condition, layer_is_grammatical, two_or_more, some_all, where_given}
@@ -8,18 +8,18 @@ use Rattle.std.proofs.lemmas.Bool.{leb-true}
 use Rattle.mr_types.specs.declared.expr.Cmp.{Cmp}
 use Rattle.mr_types.specs.declared.expr.Cmp.TheVariants as cmp
 use Rattle.mr_types.specs.declared.expr.Expr.{Expr, roll-Expr, map-Expr}
-use Rattle.mr_types.specs.declared.expr.Expr.TheFolds.{fold-Expr, fold-roll-Expr, ind-Expr}
+use Rattle.mr_types.specs.declared.expr.Expr.TheFolds.{fold-roll-Expr, ind-Expr}
 use Rattle.mr_types.specs.declared.expr.Expr.TheVariants.{rolls-Compare, rolls-IsNull, rolls-Between, rolls-OneOf, rolls-Not, rolls-And, rolls-Or}
 use Rattle.mr_types.specs.declared.expr.Expr.TheVariants as e
 use Rattle.mr_types.specs.declared.expr.Expr.TheOpen.{Expr-F, Compare, IsNull, Between, OneOf, Not, And, Or}
-use Rattle.mr_spec.specs.Phrases.{Phrase, sees, begins_name, eat, separated, listed}
+use Rattle.mr_spec.specs.Phrases.{Phrase, sees, begins_name, eat, separated}
 use Rattle.mr_spec.specs.Literals.{literal}
-use Rattle.mr_spec.specs.ConditionPhrases.{comparison, null_test, between, one_of, range_test, comparison_test, plain_test, column_test, test, all_of, any_of, conj_by, cond_by, nested, neg, cond, condition}
+use Rattle.mr_spec.specs.ConditionPhrases.{comparison, null_test, between, one_of, range_test, comparison_test, plain_test, column_test, test, conj_by, cond_by, nested, neg, cond, condition}
 use Rattle.mr_spelling.specs.Parts.{Part, Keyword, Mark, Name, Spell}
 use Rattle.mr_spelling.specs.Spelling.{spelled_by, spelled_list, spelled_literal}
 use Rattle.mr_spelling.specs.Conditions.{comparison_sign, Way, Ways, flat, under_not, enclosed, anywhere, deepest, joined, spelled_between, spelled_in, compared, all_joined, any_joined, layer_ways, ways, spelled_condition, nesting, spelled_where}
-use Rattle.mr_spelling.proofs.Reading.{Reads, go, done, lacks, lacks_sign, yes, no, yes_sign, no_sign, want, want_sign, named, looks, looks_past, seen, unseen, name-begins, yes_last, no_last, maybe_yes, maybe_no}
-use Rattle.mr_spelling.proofs.Lists.{IsItem, Each, Some_each, any_rest, some_each-of, first_of_both, second_of_both, listed-reads, separated-reads, list-grows, in_parentheses-reads, clause-reads, clause-absent}
+use Rattle.mr_spelling.proofs.Reading.{Reads, go, done, lacks, yes, no, yes_sign, no_sign, want, want_sign, named, looks, looks_past, seen, unseen, name-begins, yes_last, no_last, maybe_yes, maybe_no}
+use Rattle.mr_spelling.proofs.Lists.{IsItem, Each, any_rest, some_each-of, first_of_both, second_of_both, listed-reads, separated-reads, list-grows, in_parentheses-reads, clause-reads, clause-absent}
 use Rattle.mr_spelling.proofs.Literals.{literal-reads, literal-item, literal-grows}
 
 -- ---- one test
@@ -248,7 +248,7 @@ formed x y r f h = subst (λ z. AreWays z (roll-Expr x)) (sym (ways-form x)) (su
 compare-goes : (n : List ℕ) (c : Cmp) (v : Value) → (is_name n && is_literal v) ≡ true → AreWays (layer_ways (Compare n c v)) (e.Compare n c v)
 compare-goes n c v h =
     let i = test-way n (λ more. Mark (comparison_sign c) ∷ spelled_literal v more) (e.Compare n c v) (λ more. omega (arith, literal-grows v more))
-        (λ more. compare-reads n c v more (second_of_both (is_name n) (is_literal v) h)) in
+    (λ more. compare-reads n c v more (second_of_both (is_name n) (is_literal v) h)) in
     are-anywhere (compared n c v) (under_not (compared n c v)) (e.Compare n c v) i (under-not (compared n c v) (e.Compare n c v) i)
 
 null-goes : (n : List ℕ) → AreWays (layer_ways (IsNull n)) (e.IsNull n)

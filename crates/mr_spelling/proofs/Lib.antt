@@ -7,3 +7,7 @@ pub mod ConditionsRead
 pub mod SelectsRead
 pub mod TablesRead
 pub mod StatementsRead
+pub mod TextsRead
+pub mod Alone
+pub mod Writable
+pub mod CanonicalRead

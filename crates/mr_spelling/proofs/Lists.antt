@@ -1,9 +1,9 @@
 -- Lists, what stands in parentheses, and what may be left out.
-use Rattle.std.proofs.Common.{◌≡◌, ℕ, zero, suc, ◌+◌, ◌≤◌, List, [], ◌∷◌, ◌++◌, length, Bool, true, false, true≢false, if◌then◌else◌, ◌&&◌, Option, Some, None, codes, arith, refl, ap, sym, subst, ◌∙◌, append_assoc}
+use Rattle.std.proofs.Common.{◌≡◌, ℕ, zero, suc, ◌+◌, ◌≤◌, List, [], ◌∷◌, ◌++◌, length, Bool, true, false, true≢false, ◌&&◌, Some, None, codes, arith, refl, sym, subst, append_assoc}
 use Rattle.std.specs.List.{list_all}
-use Rattle.mr_spec.specs.Phrases.{Phrase, ◌>>=◌, ◌<$>◌, pure, eat, eat_sign, name, separated, separated_from, comma, listed, in_parentheses, names, names_in, clause}
+use Rattle.mr_spec.specs.Phrases.{Phrase, ◌<$>◌, pure, name, separated, separated_from, comma, listed, in_parentheses, names, names_in, clause}
 use Rattle.mr_types.specs.Grammatical.{some_all}
-use Rattle.mr_spelling.specs.Parts.{Part, Keyword, Mark, Name}
+use Rattle.mr_spelling.specs.Parts.{Part, Keyword, Mark}
 use Rattle.mr_spelling.specs.Spelling.{spelled_by, spelled_list, spelled_name, spelled_names}
 use Rattle.mr_spelling.proofs.Reading.{Reads, go, done, lacks, lacks_sign, no, yes, want_sign, yes_sign_last, no_sign_last, named_last, with_turns}
 

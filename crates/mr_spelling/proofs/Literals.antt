@@ -1,23 +1,21 @@
 -- Numbers, texts and literals.
-use Rattle.std.proofs.Common.{◌≡◌, ℕ, zero, suc, ◌+◌, ◌-◌, ◌^◌, ◌≤◌, ◌<◌, pos, negsuc, List, [], ◌∷◌, length, Bool, true, false, true≢false, if◌then◌else◌, ◌&&◌, nat_lt, nat_le, Option, Some, None, codes, arith, refl, ap, sym, subst, ◌∙◌}
-use Rattle.std.specs.List.{list_all}
+use Rattle.std.proofs.Common.{◌≡◌, ℕ, suc, ◌-◌, ◌^◌, ◌≤◌, pos, negsuc, List, [], ◌∷◌, length, Bool, true, if◌then◌else◌, nat_lt, Option, Some, None, arith, refl, ap, sym, subst, ◌∙◌}
 use Rattle.std.specs.Option.{option_map}
 use Rattle.std.proofs.lemmas.Bool.{le-leb, ltb-true}
-use Rattle.mr_lanes.specs.Kernels.{is_low}
 use Rattle.mr_lex.specs.Reading.{Lexeme}
 use Rattle.mr_lex.specs.declared.token.TokenKind.{TokenKind}
 use Rattle.mr_lex.specs.declared.token.TokenKind.TheVariants as kinds
-use Rattle.mr_types.specs.Grammatical.{is_ascii_text, is_literal, is_written}
-use Rattle.mr_types.specs.Values.{number_from, negated}
+use Rattle.mr_types.specs.Grammatical.{is_ascii_text, is_literal}
+use Rattle.mr_types.specs.Values.{number_from}
 use Rattle.mr_types.specs.declared.value.Value.{Value}
 use Rattle.mr_types.specs.declared.value.Value.TheVariants as values
 use Rattle.mr_spec.specs.Words.{is_number, is_text, is_bytes, is_word, only_ascii, text_bytes, binary_bytes}
-use Rattle.mr_spec.specs.Phrases.{Outcome, Phrase, ◌>>=◌, pure, first_kind, number, text, within, word}
-use Rattle.mr_spec.specs.Literals.{greatest, any_number, binary, literal_by, unsigned_literal, literal}
-use Rattle.mr_spelling.specs.Parts.{Part, Keyword, Mark, Name, Count, Quoted, Octets, Plain, IsPart, Spell}
+use Rattle.mr_spec.specs.Phrases.{first_kind, number, text, within, word}
+use Rattle.mr_spec.specs.Literals.{greatest, binary, literal_by, unsigned_literal, literal}
+use Rattle.mr_spelling.specs.Parts.{Part, Count, Quoted, Octets, Plain, IsPart, Spell}
 use Rattle.mr_spelling.specs.Spelling.{spelled_literal}
-use Rattle.mr_spelling.proofs.Reading.{IsRead, Reads, go, done, yes, no, want, yes_sign, no_sign}
-use Rattle.mr_spelling.proofs.Lists.{IsItem, any_rest, first_of_both, second_of_both}
+use Rattle.mr_spelling.proofs.Reading.{IsRead, Reads, go, done, want, yes_sign, no_sign}
+use Rattle.mr_spelling.proofs.Lists.{IsItem, any_rest}
 
 -- ---- one token
 

@@ -1,5 +1,5 @@
 -- Phrases that read what is spelled.
-use Rattle.std.proofs.Common.{◌≡◌, ℕ, zero, suc, ◌+◌, ◌≤◌, List, [], ◌∷◌, ◌++◌, length, map, Bool, true, false, true≢false, if◌then◌else◌, not, ◌&&◌, ◌||◌, nat_eq, nat_le, Option, Some, None, codes, arith, refl, ap, sym, subst, ◌∙◌, append_assoc}
+use Rattle.std.proofs.Common.{◌≡◌, ℕ, suc, ◌≤◌, List, [], ◌∷◌, length, map, Bool, true, false, true≢false, if◌then◌else◌, not, ◌&&◌, ◌||◌, nat_eq, Option, Some, None, codes, arith, refl, ap, sym, subst, ◌∙◌}
 use Rattle.std.specs.List.{list_all}
 use Rattle.std.specs.Option.{option_map}
 use Rattle.std.specs.Cmp.Lexicographic.{pointwise}
@@ -7,12 +7,9 @@ use Rattle.mr_lex.specs.Reading.{Lexeme}
 use Rattle.mr_lex.specs.Tokens.{is_same_word, lowered}
 use Rattle.mr_lex.specs.declared.token.TokenKind.{TokenKind}
 use Rattle.mr_lex.specs.declared.token.TokenKind.TheVariants as kinds
-use Rattle.mr_types.specs.Values.{number_from}
-use Rattle.mr_spec.specs.Words.{is_word, is_sign_kind, is_number, is_keyword, is_sign, is_reserved, is_among, reserved, name_in, is_namelike, only_name}
-use Rattle.mr_spec.specs.Phrases.{Outcome, Phrase, and_then, ◌>>=◌, pure, check, eat, eat_sign, maybe, maybe_sign, expect, expect_sign, sees, sees_sign, after, after_sign, behind, first_name, begins_name, name, separated, separated_from, listed, in_parentheses}
-use Rattle.mr_types.specs.Grammatical.{some_all}
+use Rattle.mr_spec.specs.Words.{is_word, is_sign_kind, is_keyword, is_sign, is_reserved, is_among, reserved, name_in, is_namelike, only_name}
+use Rattle.mr_spec.specs.Phrases.{Outcome, Phrase, and_then, ◌>>=◌, pure, check, eat, eat_sign, maybe, maybe_sign, expect, expect_sign, sees, sees_sign, after, after_sign, behind, begins_name, name}
 use Rattle.mr_spelling.specs.Parts.{Part, Keyword, Mark, Name, Count, Quoted, Octets, Plain, IsPart, Spell}
-use Rattle.mr_spelling.specs.Spelling.{spelled_by, spelled_list, spelled_name, spelled_names}
 
 -- ---- what a phrase reads
 
@@ -45,11 +42,11 @@ checked {B} {b} {all} {rest} {y} f e r = record { reads = λ ts s. rw e (r.reads
 
 -- ---- keywords
 
-same-itself : (a : List ℕ) → pointwise nat_eq a a ≡ true
+pub same-itself : (a : List ℕ) → pointwise nat_eq a a ≡ true
 same-itself [] = refl
 same-itself (x ∷ xs) = grind (arith, same-itself xs)
 
-equal-where-same : (a b : List ℕ) → pointwise nat_eq a b ≡ true → a ≡ b
+pub equal-where-same : (a b : List ℕ) → pointwise nat_eq a b ≡ true → a ≡ b
 equal-where-same [] [] e = refl
 equal-where-same [] (y ∷ ys) e = cc
 equal-where-same (x ∷ xs) [] e = cc
@@ -59,7 +56,7 @@ equal-where-same (x ∷ xs) (y ∷ ys) e = grind (arith, equal-where-same xs ys)
 abbrev never_names : List (List ℕ)
 never_names = codes "primary" ∷ codes "unique" ∷ codes "key" ∷ codes "index" ∷ codes "if" ∷ codes "default" ∷ codes "not" ∷ []
 
-abbrev is_listed : List (List ℕ) → List ℕ → Bool
+abbrev pub is_listed : List (List ℕ) → List ℕ → Bool
 is_listed [] word = false
 is_listed (w ∷ ws) word = pointwise nat_eq w word || is_listed ws word
 

@@ -1,10 +1,8 @@
 -- INSERT, REPLACE, and the assignments of UPDATE are read.
-use Rattle.std.proofs.Common.{◌≡◌, ℕ, zero, suc, pos, negsuc, ◌+◌, ◌≤◌, List, [], ◌∷◌, ◌++◌, length, Bool, true, false, true≢false, not, ◌&&◌, Option, Some, None, codes, arith, refl, ap, sym, subst, ◌∙◌, append_assoc}
+use Rattle.std.proofs.Common.{◌≡◌, ℕ, zero, suc, pos, negsuc, ◌+◌, ◌≤◌, List, [], ◌∷◌, ◌++◌, length, Bool, true, false, true≢false, not, ◌&&◌, Option, Some, None, codes, arith, refl, sym, subst, append_assoc}
 use Rattle.std.specs.List.{list_all}
 use Rattle.mr_lex.specs.Reading.{Lexeme}
-use Rattle.mr_lex.specs.declared.token.TokenKind.{TokenKind}
-use Rattle.mr_lex.specs.declared.token.TokenKind.TheVariants as kinds
-use Rattle.mr_types.specs.Grammatical.{is_name, is_literal, is_item, is_insert, is_factor, is_term, is_set_to, is_set, some_all, where_given}
+use Rattle.mr_types.specs.Grammatical.{is_name, is_item, is_insert, is_factor, is_term, is_set_to, is_set, some_all, where_given}
 use Rattle.mr_types.specs.declared.value.Value.{Value}
 use Rattle.mr_types.specs.declared.value.Value.TheVariants as values
 use Rattle.mr_types.specs.declared.statement.ItemValue.{ItemValue}
@@ -16,14 +14,12 @@ use Rattle.mr_types.specs.declared.statement.SetTo.{SetTo}
 use Rattle.mr_types.specs.declared.statement.SetTo.TheVariants as sets
 use Rattle.mr_types.specs.declared.statement.SetItem.{SetItem}
 use Rattle.mr_types.specs.declared.statement.Insert.{Insert}
-use Rattle.mr_spec.specs.Words.{name_in, is_namelike, is_reserved, only_name}
-use Rattle.mr_spec.specs.Phrases.{Phrase, ◌>>=◌, ◌<$>◌, pure, sees_sign, begins_name, name, names_in, eat_sign, separated, listed, in_parentheses, go_on}
-use Rattle.mr_spec.specs.Literals.{literal}
-use Rattle.mr_spec.specs.RowPhrases.{item_value, tuple, column_names, values_word, insert, factor, product, term, plus_or_minus, sum_from, sum, set_to, set_item}
-use Rattle.mr_spelling.specs.Parts.{Part, Keyword, Mark, Name, Count, Quoted, Octets, Plain, IsPart, Spell}
-use Rattle.mr_spelling.specs.Spelling.{spelled_by, spelled_list, spelled_if, spelled_names, spelled_literal}
+use Rattle.mr_spec.specs.Phrases.{sees_sign, begins_name, eat_sign, listed}
+use Rattle.mr_spec.specs.RowPhrases.{item_value, tuple, column_names, values_word, insert, factor, product, plus_or_minus, sum_from, sum, set_to, set_item}
+use Rattle.mr_spelling.specs.Parts.{Part, Keyword, Mark, Spell}
+use Rattle.mr_spelling.specs.Spelling.{spelled_list, spelled_if, spelled_names, spelled_literal}
 use Rattle.mr_spelling.specs.Rows.{spelled_item, spelled_tuple, spelled_insert, spelled_factor, spelled_product, sign_of, spelled_sum, spelled_to, spelled_set, is_plain_first, is_plain_to}
-use Rattle.mr_spelling.proofs.Reading.{IsRead, Reads, go, done, lacks, lacks_sign, yes, no, yes_sign, no_sign, want, want_sign, named, named_last, looks, looks_past, maybe_yes, name-begins, nameless-begins, is_nameless, unseen-sign, seen-sign, yes_sign_last, no_sign_last, with_turns, as_many}
+use Rattle.mr_spelling.proofs.Reading.{Reads, go, done, lacks, lacks_sign, yes, no, yes_sign, no_sign, want_sign, named, looks, looks_past, maybe_yes, name-begins, nameless-begins, is_nameless, unseen-sign, seen-sign, yes_sign_last, no_sign_last, with_turns}
 use Rattle.mr_spelling.proofs.Lists.{IsItem, Each, Some_each, any_rest, each-of, some_each-of, first_of_both, second_of_both, listed-reads, list-grows, separated-reads, in_parentheses-reads, names_in-reads}
 use Rattle.mr_spelling.proofs.Literals.{literal-reads, literal-item}
 
@@ -149,8 +145,11 @@ sum-grows : (ts : List Term) (more : List Part) → list_all is_term ts ≡ true
 sum-grows [] more h = omega arith
 sum-grows (t ∷ []) more h = omega (arith, product-grows t.factors more (first_of_both (is_term t) true h))
 sum-grows (t ∷ u ∷ us) more h =
-    omega (arith, product-grows t.factors (Mark (sign_of u.minus) ∷ spelled_sum (u ∷ us) more) (first_of_both (is_term t) (list_all is_term (u ∷ us)) h),
-    sum-grows (u ∷ us) more (second_of_both (is_term t) (list_all is_term (u ∷ us)) h))
+    omega (
+      arith,
+      product-grows t.factors (Mark (sign_of u.minus) ∷ spelled_sum (u ∷ us) more) (first_of_both (is_term t) (list_all is_term (u ∷ us)) h),
+      sum-grows (u ∷ us) more (second_of_both (is_term t) (list_all is_term (u ∷ us)) h),
+    )
 
 not-minus : (b : Bool) → not b ≡ true → b ≡ false
 not-minus true e = sym e

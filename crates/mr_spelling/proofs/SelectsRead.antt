@@ -1,11 +1,11 @@
 -- SELECT is read.
-use Rattle.std.proofs.Common.{◌≡◌, ℕ, zero, suc, ◌+◌, ◌-◌, ◌^◌, ◌≤◌, List, [], ◌∷◌, length, Bool, true, false, true≢false, not, ◌&&◌, ◌||◌, ◌==◌, nat_le, Option, Some, None, codes, arith, refl, ap, sym, subst, ◌∙◌, is_none}
+use Rattle.std.proofs.Common.{◌≡◌, ℕ, suc, ◌-◌, ◌^◌, ◌≤◌, List, [], ◌∷◌, length, Bool, true, false, true≢false, not, ◌&&◌, ◌||◌, ◌==◌, nat_le, Option, Some, None, codes, arith, refl, ap, sym, subst, is_none}
 use Rattle.std.specs.List.{list_all}
 use Rattle.std.specs.Cmp.Lexicographic.{pointwise}
 use Rattle.std.specs.Prelude.{nat_eq}
 use Rattle.std.proofs.lemmas.Bool.{leb-true}
 use Rattle.mr_lex.specs.Reading.{Lexeme}
-use Rattle.mr_types.specs.Grammatical.{is_name, is_aggregate, is_list, is_index_name, is_ordered_well, is_empty, is_select, some_all, where_given}
+use Rattle.mr_types.specs.Grammatical.{is_name, is_aggregate, is_list, is_ordered_well, is_empty, some_all}
 use Rattle.mr_types.specs.declared.expr.Expr.{Expr}
 use Rattle.mr_types.specs.declared.statement.Aggregate.{Aggregate}
 use Rattle.mr_types.specs.declared.statement.Aggregate.TheVariants as aggregates
@@ -16,16 +16,16 @@ use Rattle.mr_types.specs.declared.statement.IndexName.{IndexName}
 use Rattle.mr_types.specs.declared.statement.IndexName.TheVariants as indexes
 use Rattle.mr_types.specs.declared.statement.Select.{Select}
 use Rattle.mr_spec.specs.declared.drafts.Limit.{Limit}
-use Rattle.mr_spec.specs.Phrases.{Phrase, pure, sees, sees_sign, behind, names, listed}
-use Rattle.mr_spec.specs.SelectPhrase.{begins_aggregate, aggregate, select_list, index_name, forced_index, descending, order_item, order, row_count, limit_numbers, limit, may_be_ordered, select}
-use Rattle.mr_spelling.specs.Parts.{Part, Keyword, Mark, Name, Count, Spell}
+use Rattle.mr_spec.specs.Phrases.{pure, sees, sees_sign, behind}
+use Rattle.mr_spec.specs.SelectPhrase.{begins_aggregate, aggregate, select_list, index_name, forced_index, descending, order_item, order, limit_numbers, limit, may_be_ordered, select}
+use Rattle.mr_spelling.specs.Parts.{Part, Keyword, Mark, Name, Spell}
 use Rattle.mr_spelling.specs.Spelling.{spelled_list, spelled_name}
 use Rattle.mr_spelling.specs.Conditions.{spelled_where}
 use Rattle.mr_spelling.specs.Selects.{spelled_aggregate, spelled_columns, spelled_index, spelled_forced, direction, spelled_order_item, spelled_order, spelled_limit, spelled_select, is_limited}
-use Rattle.mr_spelling.proofs.Reading.{Reads, go, done, checked, lacks, lacks_sign, yes, no, yes_sign, no_sign, want, want_sign, named, looks, looks_past, seen, seen-sign, unseen-sign, yes_last, named_last, want_sign_last}
+use Rattle.mr_spelling.proofs.Reading.{Reads, go, done, checked, lacks, lacks_sign, yes, no, yes_sign, no_sign, want, named, looks, looks_past, seen, seen-sign, unseen-sign, yes_last, named_last, want_sign_last}
 use Rattle.mr_spelling.proofs.Lists.{IsItem, any_rest, some_each-of, both-true, first_of_both, second_of_both, listed-reads, names-read, in_parentheses-reads}
 use Rattle.mr_spelling.proofs.Literals.{number-reads}
-use Rattle.mr_spelling.proofs.ConditionsRead.{is_where, ends_or, condition-reads}
+use Rattle.mr_spelling.proofs.ConditionsRead.{is_where, condition-reads}
 
 -- ---- what is selected
 
@@ -215,7 +215,7 @@ select-reads s h =
     go _ (columns-read s.columns _ h.list) (want _ (named _
     (go _ (forced-reads s.forced _ (where-lacks (codes "force") s.condition rows refl (order-lacks (codes "force") s.order last refl (limit-lacks (codes "force") s.skip s.most refl))))
     (go _ (condition-reads s.condition rows h.test (order-lacks (codes "where") s.order last refl (limit-lacks (codes "where") s.skip s.most refl))
-      (both-true (lacks (codes "and") rows) (lacks (codes "or") rows) (order-lacks (codes "and") s.order last refl (limit-lacks (codes "and") s.skip s.most refl)) (order-lacks (codes "or") s.order last refl (limit-lacks (codes "or") s.skip s.most refl))))
+    (both-true (lacks (codes "and") rows) (lacks (codes "or") rows) (order-lacks (codes "and") s.order last refl (limit-lacks (codes "and") s.skip s.most refl)) (order-lacks (codes "or") s.order last refl (limit-lacks (codes "or") s.skip s.most refl))))
     (go _ (order-reads s.order last (ordered-list s.columns s h.ordered) (limit-lacks (codes "order") s.skip s.most refl) (limit-no_comma s.skip s.most))
     (go _ (limit-reads s.skip s.most h.limited)
     (checked _ (ordered-well s.columns s h.ordered) done)))))))

@@ -1,17 +1,15 @@
 -- Statements on indexes, transactions, locks and sessions are read.
-use Rattle.std.proofs.Common.{◌≡◌, ℕ, suc, ◌≤◌, List, [], ◌∷◌, length, Bool, true, false, ◌&&◌, Some, None, codes, arith, refl}
+use Rattle.std.proofs.Common.{◌≡◌, ℕ, List, [], ◌∷◌, Bool, true, false, Some, codes, arith, refl}
 use Rattle.mr_types.specs.Grammatical.{is_name, is_ascii_text, some_all}
 use Rattle.mr_types.specs.declared.statement.KeyName.{KeyName}
-use Rattle.mr_types.specs.declared.statement.Statement.{Statement}
-use Rattle.mr_types.specs.declared.statement.Statement.TheVariants as statements
 use Rattle.mr_types.specs.declared.text.KeyText.{KeyText}
 use Rattle.mr_spec.specs.declared.drafts.TableKey.{TableKey}
 use Rattle.mr_spec.specs.Phrases.{listed}
 use Rattle.mr_spec.specs.TablePhrases.{comment}
-use Rattle.mr_spec.specs.SessionPhrases.{key_on, index_on, new_index, index_words, if_exists, with_snapshot, lock_mode, locked_table}
-use Rattle.mr_spelling.specs.Parts.{Part, Keyword, Mark, Name}
+use Rattle.mr_spec.specs.SessionPhrases.{key_on, index_on, new_index, index_words, if_exists, lock_mode, locked_table}
+use Rattle.mr_spelling.specs.Parts.{Part, Keyword, Name}
 use Rattle.mr_spelling.specs.Spelling.{spelled_list, spelled_names}
-use Rattle.mr_spelling.specs.Sessions.{spelled_comment, spelled_index_on, spelled_unique, spelled_new_index, spelled_if_exists, spelled_lock}
+use Rattle.mr_spelling.specs.Sessions.{spelled_comment, spelled_index_on, spelled_unique, spelled_if_exists, spelled_lock}
 use Rattle.mr_spelling.proofs.Reading.{Reads, go, done, lacks, yes, no, want, named}
 use Rattle.mr_spelling.proofs.Lists.{IsItem, any_rest, some_each-of, listed-reads, names_in-reads}
 use Rattle.mr_spelling.proofs.Literals.{text-reads}

@@ -1,5 +1,5 @@
 -- Each statement is read from its spelling.
-use Rattle.std.proofs.Common.{◌≡◌, ℕ, zero, suc, ◌≤◌, List, [], ◌∷◌, Bool, true, false, true≢false, not, ◌&&◌, nat_le, Option, Some, None, codes, arith, refl, ap, sym, subst, ◌∙◌}
+use Rattle.std.proofs.Common.{◌≡◌, ℕ, ◌≤◌, List, [], ◌∷◌, Bool, true, false, true≢false, not, ◌&&◌, nat_le, Option, Some, None, codes, arith, refl, ap, sym, ◌∙◌}
 use Rattle.std.specs.List.{list_all}
 use Rattle.std.proofs.lemmas.Bool.{leb-true}
 use Rattle.mr_lex.specs.Reading.{Lexeme}
@@ -17,19 +17,18 @@ use Rattle.mr_spec.specs.Phrases.{Outcome, sees, behind, begins_name, name, ende
 use Rattle.mr_spec.specs.RowPhrases.{update, delete}
 use Rattle.mr_spec.specs.SessionPhrases.{index_words, drop, begin, start, with_snapshot, savepoint_name, rollback, release, lock, work}
 use Rattle.mr_spec.specs.Grammar.{create, row_statement, schema_statement, transaction, session_statement, transaction_or_session, other_statement, statement, whole_statement}
-use Rattle.mr_spelling.specs.Parts.{Part, Keyword, Name, Count, Spell}
+use Rattle.mr_spelling.specs.Parts.{Part, Keyword, Name, Spell}
 use Rattle.mr_spelling.specs.Spelling.{spelled_list}
-use Rattle.mr_spelling.specs.Sessions.{spelled_index_on, spelled_unique, spelled_new_index}
+use Rattle.mr_spelling.specs.Sessions.{spelled_unique}
 use Rattle.mr_spelling.specs.Rows.{spelled_set, is_plain_to}
 use Rattle.mr_spelling.specs.Conditions.{nesting, spelled_where}
-use Rattle.mr_spelling.specs.Selects.{is_limited}
 use Rattle.mr_spelling.specs.Statements.{spelled_statement, is_nested, is_bounded, IsSpellable}
 use Rattle.mr_spelling.proofs.Reading.{IsRead, Reads, go, done, done_as, lacks, lacks_sign, yes, no, want, want_last, named, named_last, maybe_no, looks_past, nameless-begins}
 use Rattle.mr_spelling.proofs.Lists.{both-true, first_of_both, second_of_both}
 use Rattle.mr_spelling.proofs.Literals.{number-reads}
 use Rattle.mr_spelling.proofs.SessionsRead.{key_of, index_on-reads, new_index-reads, index_words-read, if_exists-reads, locks-read}
 use Rattle.mr_spelling.proofs.RowsRead.{insert-reads, is_set_spelled, ends_set, sets-read}
-use Rattle.mr_spelling.proofs.ConditionsRead.{is_where, ends_or, condition-reads}
+use Rattle.mr_spelling.proofs.ConditionsRead.{is_where, condition-reads}
 use Rattle.mr_spelling.proofs.SelectsRead.{IsSelected, select-reads}
 use Rattle.mr_spelling.proofs.TablesRead.{create_table-reads}
 

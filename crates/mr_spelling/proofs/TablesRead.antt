@@ -1,5 +1,5 @@
 -- CREATE TABLE is read.
-use Rattle.std.proofs.Common.{◌≡◌, ℕ, zero, suc, ◌+◌, ◌-◌, ◌^◌, ◌≤◌, List, [], ◌∷◌, ◌++◌, length, map, Bool, true, false, true≢false, not, ◌&&◌, ◌||◌, nat_lt, Option, Some, None, codes, arith, refl, ap, sym, subst, ◌∙◌, append_assoc, append-nil, is_none}
+use Rattle.std.proofs.Common.{◌≡◌, ℕ, zero, suc, ◌+◌, ◌^◌, ◌≤◌, List, [], ◌∷◌, ◌++◌, length, map, Bool, true, false, true≢false, not, ◌&&◌, ◌||◌, nat_lt, Option, Some, None, codes, arith, refl, ap, sym, ◌∙◌, append_assoc, append-nil, is_none}
 use Rattle.std.specs.List.{list_all}
 use Rattle.std.proofs.lemmas.Bool.{ltb-true}
 use Rattle.mr_pieces.specs.declared.collation.Collation.{Collation}
@@ -16,14 +16,13 @@ use Rattle.mr_spec.specs.declared.drafts.Attributes.{Attributes}
 use Rattle.mr_spec.specs.declared.drafts.ColumnDraft.{ColumnDraft}
 use Rattle.mr_spec.specs.declared.drafts.TableDraft.{TableDraft}
 use Rattle.mr_spec.specs.declared.drafts.TableOptions.{TableOptions}
-use Rattle.mr_spec.specs.Phrases.{sees_sign}
 use Rattle.mr_spec.specs.Literals.{greatest}
-use Rattle.mr_spec.specs.TablePhrases.{collation, key_word, named_key, primary_of, primary_key, display_width, number_type, column_type, is_varchar, with_collation, no_attributes, with_nullable, with_default, with_column_collation, text_attribute, attribute, attributes_from, attributes, or_nullable, or_ci, column_of, with_key, with_column, column, item, items_from, no_items, items, no_options, with_engine, with_table_comment, text_option, plain_option, option, options_from, options, if_not_exists, closed, or_empty, table_of, create_table}
-use Rattle.mr_spelling.specs.Parts.{Part, Keyword, Mark, Name, Count, Quoted, Plain}
+use Rattle.mr_spec.specs.TablePhrases.{collation, key_word, named_key, primary_of, primary_key, display_width, number_type, column_type, is_varchar, no_attributes, with_nullable, with_default, with_column_collation, text_attribute, attribute, attributes_from, attributes, column_of, with_key, with_column, column, item, items_from, no_items, items, no_options, with_engine, with_table_comment, text_option, plain_option, option, options_from, options, if_not_exists, closed, or_empty, table_of, create_table}
+use Rattle.mr_spelling.specs.Parts.{Part, Keyword, Mark, Name, Quoted, Plain}
 use Rattle.mr_spelling.specs.Spelling.{spelled_list, spelled_name, spelled_names, spelled_literal}
 use Rattle.mr_spelling.specs.Sessions.{spelled_comment}
 use Rattle.mr_spelling.specs.Tables.{spelled_kind, spelled_nullable, spelled_default, collation_word, collation_of, spelled_collation, spelled_column, spelled_key_words, spelled_key, TableItem, OfColumn, OfKey, spelled_table_item, items_of, spelled_engine, spelled_if_not_exists, spelled_create_table}
-use Rattle.mr_spelling.proofs.Reading.{Reads, go, done, done_as, checked, lacks, lacks_sign, yes, no, yes_sign, no_sign, want, want_last, want_sign, named, looks_past, unseen-sign, maybe_no_sign, no_last, with_turns}
+use Rattle.mr_spelling.proofs.Reading.{Reads, go, done, done_as, checked, lacks, lacks_sign, yes, no, yes_sign, no_sign, want, want_last, named, looks_past, unseen-sign, maybe_no_sign, no_last, with_turns}
 use Rattle.mr_spelling.proofs.Lists.{both-true, first_of_both, second_of_both, in_parentheses-reads, names_in-reads}
 use Rattle.mr_spelling.proofs.Literals.{number-reads, text-reads, word-reads, literal-reads, literal-grows}
 use Rattle.mr_spelling.proofs.SessionsRead.{comment-reads}
@@ -376,6 +375,6 @@ create_table-reads text mild engine h w =
     let h3 : (not (is_empty text.columns && is_empty text.keys) && is_ascii_text text.comment) ≡ true = second_of_both keys _ h2 in
     go _ (mild-reads mild text.name _) (named _
     (go _ (in_parentheses-reads (items-read (items_of text) _ (some-items text.columns text.keys (first_of_both (not (is_empty text.columns && is_empty text.keys)) _ h3))
-      (all-columns text.columns (map OfKey text.keys) (first_of_both columns _ h1) (all-keys text.keys (first_of_both keys _ h2)))))
+    (all-columns text.columns (map OfKey text.keys) (first_of_both columns _ h1) (all-keys text.keys (first_of_both keys _ h2)))))
     (go _ (options-read engine text.comment w (second_of_both (not (is_empty text.columns && is_empty text.keys)) _ h3))
     (done_as (ap (λ t. statements.CreateTable t mild engine) (table-same text engine))))))

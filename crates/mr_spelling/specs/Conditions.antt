@@ -1,12 +1,12 @@
 -- How conditions are spelled, and how deep they nest.
-use Rattle.std.specs.Prelude.{ℕ, zero, suc, max, List, [], ◌∷◌, map, Option, Some, None, codes}
+use Rattle.std.specs.Prelude.{ℕ, suc, max, List, [], ◌∷◌, map, Option, Some, None, codes}
 use Rattle.mr_types.specs.declared.value.Value.{Value}
 use Rattle.mr_types.specs.declared.expr.Cmp.{Cmp}
 use Rattle.mr_types.specs.declared.expr.Cmp.TheVariants as cmp
 use Rattle.mr_types.specs.declared.expr.Expr.{Expr, fold-Expr}
 use Rattle.mr_types.specs.declared.expr.Expr.TheOpen.{Expr-F, Compare, IsNull, Between, OneOf, Not, And, Or}
 use Rattle.mr_spelling.specs.Parts.{Part, Keyword, Mark, Name}
-use Rattle.mr_spelling.specs.Spelling.{spelled_by, spelled_list, spelled_if, spelled_literal}
+use Rattle.mr_spelling.specs.Spelling.{spelled_by, spelled_list, spelled_literal}
 
 abbrev pub comparison_sign : Cmp → List ℕ
 comparison_sign cmp.Eq = codes "="

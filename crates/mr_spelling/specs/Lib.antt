@@ -6,3 +6,5 @@ pub mod Conditions
 pub mod Selects
 pub mod Tables
 pub mod Statements
+pub mod Texts
+pub mod Canonical

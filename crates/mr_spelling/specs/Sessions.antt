@@ -2,8 +2,8 @@
 use Rattle.std.specs.Prelude.{ℕ, Bool, true, false, List, [], ◌∷◌, codes}
 use Rattle.mr_types.specs.declared.statement.KeyName.{KeyName}
 use Rattle.mr_types.specs.declared.text.KeyText.{KeyText}
-use Rattle.mr_spelling.specs.Parts.{Part, Keyword, Mark, Name, Count, Quoted}
-use Rattle.mr_spelling.specs.Spelling.{spelled_list, spelled_names}
+use Rattle.mr_spelling.specs.Parts.{Part, Keyword, Name, Quoted}
+use Rattle.mr_spelling.specs.Spelling.{spelled_names}
 
 -- ---- keys
 

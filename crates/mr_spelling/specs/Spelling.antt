@@ -2,7 +2,7 @@
 use Rattle.std.specs.Prelude.{ℕ, pos, negsuc, suc, List, [], ◌∷◌, Option, Some, None, codes}
 use Rattle.mr_types.specs.declared.value.Value.{Value}
 use Rattle.mr_types.specs.declared.value.Value.TheVariants as values
-use Rattle.mr_spelling.specs.Parts.{Part, Keyword, Mark, Name, Count, Quoted, Octets, Plain}
+use Rattle.mr_spelling.specs.Parts.{Part, Keyword, Mark, Name, Count, Quoted, Octets}
 
 -- ---- lists and options
 

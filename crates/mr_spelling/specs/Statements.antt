@@ -1,5 +1,5 @@
 -- How each statement is spelled, and which statements are.
-use Rattle.std.specs.Prelude.{◌≡◌, ℕ, Bool, true, ◌&&◌, nat_le, List, [], ◌∷◌, Option, codes}
+use Rattle.std.specs.Prelude.{◌≡◌, Bool, true, ◌&&◌, nat_le, List, [], ◌∷◌, Option, codes}
 use Rattle.std.specs.List.{list_all}
 use Rattle.mr_types.specs.Grammatical.{is_statement, where_given}
 use Rattle.mr_types.specs.declared.expr.Expr.{Expr}

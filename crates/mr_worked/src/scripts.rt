@@ -1,8 +1,9 @@
 //! Worked scripts, run by the plain program.
 
-use crate::replies::{REOPENED, ROWS, Row};
+use crate::replies::{REOPENED, ROWS};
 use mr_base::{Clock, Memory};
 use mr_model::run_script;
+use mr_types::Commit;
 use sqlite_items::Items;
 use std::alloc::Global;
 use std::test::Fail;
@@ -10,7 +11,7 @@ use std::test::Fail;
 /// A clock that gives these values, and then 0, with which the moment stays.
 #[derive(Drop)]
 struct Values<'a> {
-    left: &'a [u64],
+    left: &'a [u8],
 }
 
 impl Clock for Values<'_> {
@@ -23,14 +24,24 @@ impl Clock for Values<'_> {
             [] => 0,
             [first, rest @ ..] => {
                 self.left = rest;
-                *first
+                *first as u64
             }
         }
     }
 }
 
+/// What stands before the first 0xfd, and what stands behind it.
+fn halves(row: &[u8]) -> (&[u8], &[u8]) {
+    for (i, byte) in row.iter().enumerate() {
+        if *byte == 0xfd {
+            return (&row[..i], &row[i + 1..]);
+        }
+    }
+    (row, row)
+}
+
 /// Whether the run of a script gives these replies, where the clock gives these values.
-fn gives(alloc: Global, values: &[u64], script: &[u8], replies: &[u8]) -> Result<bool, Memory> {
+fn gives(alloc: Global, values: &[u8], script: &[u8], replies: &[u8]) -> Result<bool, Memory> {
     let ran = run_script(
         alloc,
         Items::new(alloc),
@@ -40,33 +51,66 @@ fn gives(alloc: Global, values: &[u64], script: &[u8], replies: &[u8]) -> Result
     Ok(ran.output.as_slice() == replies)
 }
 
+/// Whether a run gives the replies that a row has behind what it shows.
+fn is_right(alloc: Global, row: &[u8]) -> Result<bool, Memory> {
+    let (values, rest) = halves(row);
+    let (script, replies) = halves(rest);
+    gives(alloc, values, script, replies)
+}
+
 #[test]
 fn scripts_have_their_replies(rt: HostRuntime) -> Result<(), Fail> {
-    for row in &ROWS {
-        assert!(rt;
-            gives(rt.alloc(), row.moments, row.script, row.replies)?,
-            "{}",
-            row.what
-        );
+    for row in ROWS.split(|byte| *byte == 0xfe).skip(1) {
+        let (what, rest) = halves(row);
+        assert!(rt; is_right(rt.alloc(), rest)?, "{what:?}");
     }
     Ok(())
 }
 
-/// Whether the second script gives its replies on the commits of the first.
-fn gives_reopened(alloc: Global, before: &Row, row: &Row) -> Result<bool, Memory> {
-    let mut values = Values {
-        left: before.moments,
-    };
-    let ran = run_script(alloc, Items::new(alloc), before.script, &mut values)?;
-    let mut values = Values { left: row.moments };
-    let again = run_script(alloc, ran.commits, row.script, &mut values)?;
-    Ok(ran.output.as_slice() == before.replies && again.output.as_slice() == row.replies)
+/// The commits of a run, None where its replies are others.
+fn commits_of(
+    alloc: Global,
+    values: &[u8],
+    script: &[u8],
+    replies: &[u8],
+) -> Result<Option<Items<Commit>>, Memory> {
+    let ran = run_script(
+        alloc,
+        Items::new(alloc),
+        script,
+        &mut Values { left: values },
+    )?;
+    if ran.output.as_slice() == replies {
+        Ok(Some(ran.commits))
+    } else {
+        Ok(None)
+    }
+}
+
+/// Whether a run on these commits gives the replies of a row.
+fn is_right_on(alloc: Global, commits: Items<Commit>, row: &[u8]) -> Result<bool, Memory> {
+    let (values, rest) = halves(row);
+    let (script, replies) = halves(rest);
+    let ran = run_script(alloc, commits, script, &mut Values { left: values })?;
+    Ok(ran.output.as_slice() == replies)
+}
+
+/// Whether a run gives its replies, and one on its commits the replies behind them.
+fn is_right_reopened(alloc: Global, row: &[u8]) -> Result<bool, Memory> {
+    let (values, rest) = halves(row);
+    let (script, rest) = halves(rest);
+    let (replies, second) = halves(rest);
+    match commits_of(alloc, values, script, replies)? {
+        Some(commits) => is_right_on(alloc, commits, second),
+        None => Ok(false),
+    }
 }
 
 #[test]
 fn reopened_scripts_have_their_replies(rt: HostRuntime) -> Result<(), Fail> {
-    for (before, row) in &REOPENED {
-        assert!(rt; gives_reopened(rt.alloc(), before, row)?, "{}", row.what);
+    for row in REOPENED.split(|byte| *byte == 0xfe).skip(1) {
+        let (what, rest) = halves(row);
+        assert!(rt; is_right_reopened(rt.alloc(), rest)?, "{what:?}");
     }
     Ok(())
 }

@@ -289,7 +289,7 @@ fn code_beside(alloc: Global) -> Result<u16, Memory> {
 /// Whether the changes of two rows are too heavy.
 fn is_heavy(alloc: Global) -> Result<bool, Memory> {
     match filled(alloc) {
-        Ok(progress) => Ok(is_too_heavy(&[], progress.changes.as_slice())),
+        Ok(progress) => Ok(is_too_heavy(&[], progress.changes.as_slice(), &[])),
         Err(_) => Err(Memory),
     }
 }

@@ -71,4 +71,3 @@ fn main(rt: HostRuntime) -> ExitCode {
     explain(&rt, status, report.stop);
     ExitCode::from(status)
 }
-

@@ -1,7 +1,7 @@
 //! Worked commits, and bytes that are none.
 
-use super::*;
 use mr_base::{Blob, DefAnswer, Memory};
+use mr_binlog::{read_commit, write_commit};
 use std::alloc::Global;
 use std::test::Fail;
 

@@ -1,7 +1,7 @@
 //! The binary log of two commits: walked, counted, and added to.
-use crate::logs::{FAR, host_of};
 use mr_base::{Memory, Stop};
 use mr_binlog::{Binlog, write_commit};
+use mr_memhost::MemHost;
 use std::alloc::Global;
 use std::test::Fail;
 
@@ -14,6 +14,18 @@ const LOG: [u8; 84] = [
 
 /// The second record stands here.
 const SECOND: u64 = 42;
+
+/// A length that no log here reaches.
+const FAR: u64 = 1000;
+
+/// A host whose file 1 has these bytes.
+fn host_of(alloc: Global, bytes: &[u8]) -> Option<MemHost> {
+    let mut host = MemHost::new(alloc);
+    match host.add_file(1, bytes) {
+        Ok(()) => Some(host),
+        Err(_) => None,
+    }
+}
 
 /// Where the commit at a place ends, if there is one, and whether it is written as it was read.
 fn read_once(alloc: Global, from: u64, at: u64) -> Result<(Option<u64>, bool), Stop> {
@@ -115,19 +127,23 @@ fn room_is_told(rt: HostRuntime) -> Result<(), Fail> {
     Ok(())
 }
 
+/// A byte of the first commit, what stands there instead, and where that offends: another kind of commit, no byte of a
+/// name, another kind of column; a longer name, a part of a key more and a longer comment, behind which other fields
+/// offend.
+const CHANGES: [(usize, u8, u64); 6] = [
+    (13, 5, 13),
+    (14, 0, 14),
+    (20, 7, 20),
+    (26, 2, 29),
+    (35, 2, 41),
+    (41, 1, 40),
+];
+
 #[test]
-fn no_commit_is_damage_at_its_first_offence(rt: HostRuntime) -> Result<(), Fail> {
-    let alloc = rt.alloc();
-    for (at, byte, place) in [
-        (13, 5, 13),
-        (14, 0, 14),
-        (20, 7, 20),
-        (26, 2, 29),
-        (35, 2, 41),
-        (41, 1, 40),
-    ] {
-        let stop = damage(alloc, at, byte);
-        assert_eq!(rt; stop, Ok(Some(Stop::Damaged { file: 1, at: place })));
+fn no_commit_is_damage_at_its_offence(rt: HostRuntime) -> Result<(), Fail> {
+    for (at, byte, place) in CHANGES {
+        let stop = Stop::Damaged { file: 1, at: place };
+        assert_eq!(rt; damage(rt.alloc(), at, byte), Ok(Some(stop)));
     }
     Ok(())
 }

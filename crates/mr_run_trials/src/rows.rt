@@ -1,0 +1,127 @@
+//! Scripts and their replies.
+
+/// Rows, parted by `~`: what is shown, and behind each `^` a run. A folder is empty before a row's first run and is reopened for each
+/// further one. A run has three parts, parted by `|`: the clock's values, one a statement, or none where the words say that the moment
+/// is 7; the script; and the replies, with a `/` for the end of each line.
+pub(crate) const ROWS: &str = "
+no statement
+^||
+^| \n ; ; -- nothing\n /* nothing */|
+~ a dump, and a text found without regard to case
+^|-- dump
+/*!40101 SET NAMES ascii */; DROP TABLE IF EXISTS `u`; CREATE TABLE `u` (`id` bigint(20) NOT NULL, `n` varchar(20) CHARACTER SET ascii COLLATE ascii_general_ci DEFAULT NULL, PRIMARY KEY (`id`), KEY `k` (`n`) COMMENT 'rev:cf1') ENGINE=ROCKSDB DEFAULT CHARSET=ascii; LOCK TABLES `u` WRITE; INSERT INTO `u` VALUES (1,'bob'),(2,'Al'); UNLOCK TABLES; SELECT * FROM u ORDER BY n;
+|OK 0/OK 0/OK 0/OK 2/OK 0/ROWS 2/2\tAl/1\tbob/
+^|INSERT INTO u VALUES (3,'Ab '); SELECT n FROM u WHERE n='ab';
+|OK 1/ROWS 1/Ab /
+~ a unique key without regard to case
+^|CREATE TABLE v (id BIGINT NOT NULL, n VARCHAR(9) COLLATE ascii_general_ci, PRIMARY KEY (id), UNIQUE KEY w (n)); INSERT INTO v VALUES (1,'Ab '); INSERT INTO v VALUES (2,'aB');
+|OK 0/OK 1/ERROR 1062/
+~ texts in order
+^|CREATE TABLE v (id BIGINT NOT NULL, n VARCHAR(9) COLLATE ascii_general_ci, PRIMARY KEY (id), UNIQUE KEY w (n)); INSERT INTO v VALUES (1,'a'),(2,'a\\t'); SELECT n FROM v ORDER BY n;
+|OK 0/OK 2/ROWS 2/a\\t/a/
+~ great numbers
+^|CREATE TABLE t (id BIGINT NOT NULL, v BIGINT, PRIMARY KEY (id)); INSERT INTO t (id) VALUES (0),(9223372036854775807),(-1),(-9223372036854775808); SELECT id FROM t; INSERT INTO t VALUES (9223372036854775808,1);
+|OK 0/OK 4/ROWS 4/-9223372036854775808/-1/0/9223372036854775807/ERROR 1264/
+~ a row moved onto another
+^|CREATE TABLE t (id BIGINT NOT NULL, v BIGINT, PRIMARY KEY (id)); INSERT INTO t VALUES (1,1),(2,2); UPDATE t SET id=id+1; SELECT * FROM t;
+|OK 0/OK 2/ERROR 1062/ROWS 2/1\t1/2\t2/
+~ bytes in order
+^|CREATE TABLE b (k VARBINARY(20) NOT NULL, PRIMARY KEY (k)); INSERT INTO b VALUES (x'616263646566676800'),(_binary 'abcdefgh'); SELECT k FROM b;
+|OK 0/OK 2/ROWS 2/abcdefgh/abcdefgh\\0/
+~ a snapshot
+^|CREATE TABLE t (id BIGINT NOT NULL, v BIGINT, PRIMARY KEY (id)); INSERT INTO t VALUES (1,10); SESSION a; BEGIN; SELECT v FROM t; SESSION b; UPDATE t SET v=20 WHERE id=1; WORK 50; SESSION a; SELECT v FROM t; COMMIT; SELECT v FROM t;
+|OK 0/OK 1/OK 0/OK 0/ROWS 1/10/OK 0/OK 1/OK 0/OK 0/ROWS 1/10/OK 0/ROWS 1/20/
+~ claims and later commits
+^|CREATE TABLE t (id BIGINT NOT NULL, v BIGINT, PRIMARY KEY (id)); SESSION c; BEGIN; SELECT COUNT(*) FROM t; SESSION a; BEGIN; INSERT INTO t VALUES (5,1); SESSION b; INSERT INTO t VALUES (5,2); SESSION a; COMMIT; SESSION c; INSERT INTO t VALUES (5,3); INSERT INTO t VALUES (6,3); ROLLBACK; SELECT id FROM t;
+|OK 0/OK 0/OK 0/ROWS 1/0/OK 0/OK 0/OK 1/OK 0/ERROR 1205/OK 0/OK 0/OK 0/ERROR 1213/OK 1/OK 0/ROWS 2/5/6/
+~ a claim given back to a savepoint
+^|CREATE TABLE t (id BIGINT NOT NULL, v BIGINT, PRIMARY KEY (id)); BEGIN; INSERT INTO t VALUES (1,1); SAVEPOINT p; INSERT INTO t VALUES (2,2); ROLLBACK TO p; SESSION a; INSERT INTO t VALUES (2,9); SESSION main; COMMIT; SELECT * FROM t;
+|OK 0/OK 0/OK 1/OK 0/OK 1/OK 0/OK 0/OK 1/OK 0/OK 0/ROWS 2/1\t1/2\t9/
+~ expired rows
+^100 100 109 110 110|CREATE TABLE e (id BIGINT NOT NULL, PRIMARY KEY (id)) COMMENT='ttl_duration=10;'; INSERT INTO e VALUES (1); SELECT COUNT(*) FROM e; SELECT COUNT(*) FROM e; INSERT INTO e VALUES (1);
+|OK 0/OK 1/ROWS 1/1/ROWS 1/0/OK 1/
+~ a stamp in a column
+^5 5 5 5 20 20 20|CREATE TABLE x (id BIGINT NOT NULL, d BIGINT UNSIGNED NOT NULL, PRIMARY KEY (id)) COMMENT='ttl_duration=10;ttl_col=d;'; INSERT INTO x VALUES (1,1000); WORK 50; UPDATE x SET d=1; CREATE TABLE y (a INT); WORK 50; SELECT id FROM x;
+|OK 0/OK 1/OK 0/OK 1/OK 0/OK 0/ROWS 0/
+~ a moment that does not fall, and the stamp of it
+^50 40 40|CREATE TABLE e (id INT NOT NULL, PRIMARY KEY (id)) COMMENT='ttl_duration=10;'; INSERT INTO e VALUES (1); SELECT COUNT(*) FROM e;
+|OK 0/OK 1/ROWS 1/1/
+^59 60|SELECT COUNT(*) FROM e; SELECT COUNT(*) FROM e;
+|ROWS 1/1/ROWS 1/0/
+~ a stamp that an update keeps
+^100 100 105 110|CREATE TABLE h (id BIGINT NOT NULL, v BIGINT, PRIMARY KEY (id)) COMMENT='ttl_duration=10;'; INSERT INTO h VALUES (1,1); UPDATE h SET v=2; SELECT COUNT(*) FROM h;
+|OK 0/OK 1/OK 1/ROWS 1/0/
+~ an index that is not finished when the folder is reopened
+^|CREATE TABLE t (id BIGINT NOT NULL, v BIGINT, PRIMARY KEY (id)); INSERT INTO t VALUES (1,7); BEGIN INDEX k ON t (v); WORK 1; SESSION a; INSERT INTO t VALUES (2,7);
+|OK 0/OK 1/OK 0/OK 0/OK 0/OK 1/
+^|SELECT id FROM t FORCE INDEX (k); SELECT id FROM t;
+|ERROR 1176/ROWS 2/1/2/
+~ an index that is finished before the folder is reopened
+^|CREATE TABLE t (id BIGINT NOT NULL, v BIGINT, PRIMARY KEY (id)); INSERT INTO t VALUES (1,7); BEGIN INDEX k ON t (v); WORK 1; SESSION a; INSERT INTO t VALUES (2,7); FINISH INDEX k ON t;
+|OK 0/OK 1/OK 0/OK 0/OK 0/OK 1/OK 0/
+^|SELECT id FROM t FORCE INDEX (k) WHERE v=7;
+|ROWS 2/1/2/
+~ a unique index over rows of which one expires
+^100 100 105 105 105 110 110|CREATE TABLE z (id BIGINT NOT NULL, v BIGINT, PRIMARY KEY (id)) COMMENT='ttl_duration=10;'; INSERT INTO z VALUES (1,7); INSERT INTO z VALUES (2,7); BEGIN UNIQUE INDEX w ON z (v); FINISH INDEX w ON z; BEGIN UNIQUE INDEX w ON z (v); FINISH INDEX w ON z;
+|OK 0/OK 1/OK 1/OK 0/ERROR 1062/OK 0/OK 0/
+~ one building index a table
+^|CREATE TABLE t (id BIGINT NOT NULL, v BIGINT, PRIMARY KEY (id)); BEGIN INDEX k ON t (v); BEGIN INDEX j ON t (v); BEGIN INDEX k ON t (v); DROP TABLE t; FINISH INDEX j ON t; CANCEL INDEX k ON t; CANCEL INDEX k ON t; CREATE INDEX j ON t (v); DROP INDEX j ON t;
+|OK 0/OK 0/ERROR 1205/ERROR 1061/ERROR 1205/ERROR 1176/OK 0/ERROR 1176/OK 0/OK 0/
+~ a statement that no semicolon ends
+^|SELECT 1
+|ERROR 1064/
+~ NULL and the empty text
+^|CREATE TABLE s (id BIGINT NOT NULL, n VARCHAR(5), PRIMARY KEY (id), UNIQUE KEY w (n)); INSERT INTO s VALUES (1,''),(2,NULL),(3,NULL); SELECT id,n FROM s ORDER BY n; SELECT id FROM s WHERE NOT n='x';
+|OK 0/OK 3/ROWS 3/2\tNULL/3\tNULL/1\t/ROWS 1/1/
+~ a table that another session uses
+^|CREATE TABLE t (id BIGINT NOT NULL, v BIGINT, PRIMARY KEY (id)); SESSION a; BEGIN; SELECT id FROM t; SESSION b; DROP TABLE t; CREATE TABLE w (a INT); SESSION a; SELECT a FROM w;
+|OK 0/OK 0/OK 0/ROWS 0/OK 0/ERROR 1205/OK 0/OK 0/ERROR 1412/
+~ refusals
+^|CREATE TABLE t (id BIGINT NOT NULL, v BIGINT, PRIMARY KEY (id)); INSERT INTO t VALUES (1,3);
+|OK 0/OK 1/
+^|INSERT INTO t VALUES (1);|ERROR 1136/
+^|INSERT INTO t (v) VALUES (1);|ERROR 1364/
+^|INSERT INTO t VALUES (NULL,1);|ERROR 1048/
+^|INSERT INTO t VALUES ('x',1);|ERROR 1366/
+^|INSERT INTO t (id,id) VALUES (1,1);|ERROR 1110/
+^|SELECT q FROM t;|ERROR 1054/
+^|SELECT id FROM r;|ERROR 1146/
+^|DROP TABLE r;|ERROR 1051/
+^|UPDATE t SET v=v*9223372036854775807;|ERROR 1690/
+^|DROP INDEX k ON t;|ERROR 1091/
+^|ROLLBACK TO p;|ERROR 1305/
+^|CREATE TABLE t (id INT);|ERROR 1050/
+^|CREATE TABLE h (a INT, A INT);|ERROR 1060/
+^|CREATE TABLE h (a INT DEFAULT 'q');|ERROR 1067/
+^|CREATE TABLE h (a VARCHAR(768) NOT NULL, PRIMARY KEY (a));|ERROR 1071/
+^|CREATE TABLE h (a INT, KEY j (c));|ERROR 1072/
+^|CREATE TABLE h (a INT) ENGINE=InnoDB;|ERROR 1286/
+^|CREATE TABLE v (id BIGINT NOT NULL, n VARCHAR(9) COLLATE ascii_general_ci, PRIMARY KEY (id), UNIQUE KEY w (n)); INSERT INTO v VALUES (1,'abcdefghij');
+|OK 0/ERROR 1406/
+^|SELECT * FROM t; SELECT * FROM v;|ROWS 1/1\t3/ROWS 0/
+~ a row replaced
+^|CREATE TABLE v (id BIGINT NOT NULL, n VARCHAR(9) COLLATE ascii_general_ci, PRIMARY KEY (id), UNIQUE KEY w (n)); INSERT INTO v VALUES (1,'a'),(2,'b'); REPLACE INTO v VALUES (1,'B'); SELECT * FROM v;
+|OK 0/OK 2/OK 3/ROWS 1/1\tB/
+~ rows in the order of their inserts
+^|CREATE TABLE g (a INT); INSERT INTO g VALUES (3),(1),(1); SELECT * FROM g;
+|OK 0/OK 3/ROWS 3/3/1/1/
+~ aggregates, NOT IN, BETWEEN and LIMIT
+^|CREATE TABLE t (id BIGINT NOT NULL, v BIGINT, PRIMARY KEY (id)); SELECT COUNT(*),MIN(v) FROM t; INSERT INTO t VALUES (1,NULL),(2,4); SELECT id FROM t WHERE v NOT IN (5,NULL); SELECT id FROM t WHERE v BETWEEN 4 AND 4 OR v IS NULL LIMIT 1,1;
+|OK 0/ROWS 1/0\tNULL/OK 2/ROWS 0/ROWS 1/2/
+~ a forced key
+^|CREATE TABLE v (id BIGINT NOT NULL, n VARCHAR(9) COLLATE ascii_general_ci, PRIMARY KEY (id), UNIQUE KEY w (n)); INSERT INTO v VALUES (2,'b'),(1,'C'); SELECT n FROM v FORCE INDEX (w); SELECT id FROM v FORCE INDEX (w) WHERE n>'B'; SELECT id FROM v FORCE INDEX (x);
+|OK 0/OK 2/ROWS 2/C/b/ROWS 1/1/ERROR 1176/
+~ a key that is taken and a table that is missing
+^|CREATE TABLE t (id BIGINT NOT NULL, v BIGINT, PRIMARY KEY (id)); INSERT INTO t VALUES (2,5); INSERT INTO t VALUES (-1,0); INSERT INTO t VALUES (2,6); SELECT * FROM t; SELECT * FROM r;
+|OK 0/OK 1/OK 1/ERROR 1062/ROWS 2/-1\t0/2\t5/ERROR 1146/
+~ a transaction that is open at the end
+^|CREATE TABLE t (id BIGINT NOT NULL, v BIGINT, PRIMARY KEY (id)); BEGIN; INSERT INTO t VALUES (1,2); SESSION a; INSERT INTO t VALUES (2,2); SAVEPOINT p;
+|OK 0/OK 0/OK 1/OK 0/OK 1/OK 0/
+^|SELECT * FROM t; INSERT INTO t VALUES (1,3);
+|ROWS 1/2\t2/OK 1/
+~ hidden numbers go on
+^|CREATE TABLE g (a INT NOT NULL); INSERT INTO g VALUES (3),(1); DELETE FROM g WHERE a=1; INSERT INTO g VALUES (4);
+|OK 0/OK 2/OK 1/OK 1/
+^|INSERT INTO g VALUES (2),(1); SELECT * FROM g;
+|OK 2/ROWS 4/3/4/2/1/
+";
