@@ -1,7 +1,7 @@
 -- A text of which no more bytes are kept than one more than a statement may have.
-use Rattle.std.proofs.Common.{◌≡◌, ℕ, ◌+◌, ◌<◌, ◌≤◌, Bool, true, false, cond, List, [], ◌∷◌, ◌++◌, length, take, map, Result, Ok, Err, refl, ap, sym, ◌∙◌, inl, inr, arith, take_all, nat_lt, if◌then◌else◌, lt-ltb, length-append}
+use Rattle.std.proofs.Common.{◌≡◌, ℕ, ◌<◌, ◌≤◌, Bool, true, false, List, [], ◌∷◌, ◌++◌, length, take, map, Result, Err, refl, ap, sym, ◌∙◌, inl, inr, arith, take_all, if◌then◌else◌, lt-ltb, length-append}
 use Rattle.std.proofs.lemmas.Bool.{cases_lt}
-use Rattle.std.proofs.lemmas.List.{take-append-le, length-take, length-take-le}
+use Rattle.std.proofs.lemmas.List.{take-append-le, length-take}
 use Rattle.mr_lex.specs.Cutting.{as_part}
 use Rattle.mr_lex.specs.Pieces.{is_two_dashes, kept_where_blank}
 use Rattle.mr_spec.specs.Grammar.{parsed, statement_of}

@@ -1,6 +1,6 @@
 -- From how a run ended to its status, and what that promises.
 use Rattle.std.proofs.Common.{◌≡◌, ◌⊎◌, ℕ, ◌+◌, ◌^◌, ◌<◌, ◌≤◌, List, [], ◌∷◌, ◌++◌, length, Some, None, Option, refl, ap, sym, ◌∙◌, inl, inr, subst, arith, append_assoc, length-append, Bool, cond, IsTrue, Ok, Err}
-use Rattle.mr_base.specs.Disk.{State, Moment, Image, present, seen}
+use Rattle.mr_base.specs.Disk.{State, Moment, present, seen}
 use Rattle.mr_base.specs.Source.{SourceState, ClockState}
 use Rattle.mr_base.specs.declared.stop.Stop.{Stop}
 use Rattle.mr_base.specs.declared.stop.Stop.TheVariants.{Memory, Disk, Full, Damaged}
@@ -11,7 +11,6 @@ use Rattle.mr_spec.specs.Replay.{reopened}
 use Rattle.mr_spec.specs.ScriptRun.{Event, run_of, output_of, added_by}
 use Rattle.mr_types.specs.declared.row.Commit.{Commit}
 use Rattle.mr_commit_log.specs.Appending.{IsSettled}
-use Rattle.mr_commit_log.specs.Folder.{StandsFor}
 use Rattle.mr_commit_log.specs.Room.{log_length, HasRoom}
 use Rattle.mr_commit_log.specs.declared.ending.Ending.{Ending}
 use Rattle.mr_commit_log.specs.declared.ending.Ending.TheVariants.{Stopped, EmitFault, SourceFault, TooLong}

@@ -1,5 +1,5 @@
 -- A script in pieces.
-use Rattle.std.proofs.Common.{◌≡◌, ℕ, List, [], ◌∷◌, ◌++◌, refl, ap, sym, ◌∙◌, append_assoc, map, true, false, cond, ◌==◌, ◌||◌}
+use Rattle.std.proofs.Common.{◌≡◌, ℕ, List, [], ◌∷◌, ◌++◌, refl, ap, sym, ◌∙◌, append_assoc, map, true, false, cond, ◌||◌}
 use Rattle.mr_lex.specs.Cutting.{Part, ends, part_of, rest_of, parts_from}
 use Rattle.mr_spec.specs.ScriptRun.{Event, has_error, is_refusal, read_part, statements_of}
 use Rattle.mr_run.specs.Cutting.{ended_by, left_by, statements_in}

@@ -1,5 +1,5 @@
 -- One statement at a clock's next value.
-use Rattle.std.proofs.Common.{◌≡◌, ◌+◌, ◌∙◌, ◌||◌, Option, Some, ℕ, zero, suc, refl, ap, arith, IsTrue, List, [], ◌∷◌, Result, None, OnOk, subst, sym, Bool, true, false}
+use Rattle.std.proofs.Common.{◌≡◌, ◌+◌, ◌∙◌, ◌||◌, Option, Some, ℕ, zero, suc, refl, ap, arith, IsTrue, [], ◌∷◌, Result, None, OnOk}
 use Rattle.mr_base.specs.Disk.{State}
 use Rattle.mr_base.specs.Source.{ClockState}
 use Rattle.mr_spec.specs.ScriptRun.{event_at, world_after, has_error}

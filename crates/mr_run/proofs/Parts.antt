@@ -8,8 +8,8 @@ use Rattle.mr_lex.proofs.Alike.{Holds as HasKept, read_holds}
 use Rattle.mr_lex.proofs.Blanks.{text_is}
 use Rattle.mr_lex.proofs.Lists.{and_second}
 use Rattle.mr_spec.specs.ScriptRun.{read_part}
-use Rattle.mr_run.specs.Cutting.{ended_by, left_by, statements_in}
-use Rattle.mr_run.specs.Holding.{Holds, most_kept, given_by}
+use Rattle.mr_run.specs.Cutting.{left_by, statements_in}
+use Rattle.mr_run.specs.Holding.{Holds, most_kept}
 use Rattle.mr_run.specs.declared.part.Part.{Part}
 use Rattle.mr_run.proofs.Capped.{part_kept}
 

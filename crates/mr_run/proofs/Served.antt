@@ -1,11 +1,10 @@
 -- Statements served one after the other.
-use Rattle.std.proofs.Common.{◌≡◌, ℕ, ◌+◌, ◌-◌, List, [], ◌∷◌, ◌++◌, Some, None, Option, refl, ap, sym, ◌∙◌, subst, Bool, true, false, IsTrue, ◌||◌, Result, Err, IsErrAnd, map, length, append-nil, arith, inl, inr, length-append}
+use Rattle.std.proofs.Common.{◌≡◌, ℕ, ◌+◌, ◌-◌, List, [], ◌++◌, Some, None, Option, refl, ap, sym, ◌∙◌, subst, Bool, true, false, IsTrue, ◌||◌, Result, IsErrAnd, length, arith, inl, inr, length-append}
 use Rattle.std.proofs.lemmas.Bool.{cases_lt}
 use Rattle.mr_base.specs.Disk.{State}
 use Rattle.mr_base.specs.declared.stop.Stop.TheVariants.{Memory}
 use Rattle.mr_base.specs.Source.{ClockState}
 use Rattle.mr_spec.specs.ScriptRun.{trace, world_behind, has_error, added_by}
-use Rattle.mr_spec.specs.World.{World}
 use Rattle.mr_spec.proofs.Runs.{commits-behind}
 use Rattle.mr_spec.proofs.Traces.{later}
 use Rattle.mr_types.specs.declared.row.Commit.{Commit}
@@ -22,7 +21,7 @@ use Rattle.mr_serve.proofs.Events.{trace_on}
 use Rattle.mr_serve.proofs.Running.{runs_nothing, runs_on, runs_cut}
 use Rattle.mr_run.specs.Clocks.{joined}
 use Rattle.mr_run.specs.Cutting.{left_by, statements_in}
-use Rattle.mr_run.specs.Serving.{Served, Serves}
+use Rattle.mr_run.specs.Serving.{Serves}
 use Rattle.mr_run.proofs.Cut.{error_on, statements_on}
 use Rattle.mr_run.proofs.Traces.{joined_first, joined_then, trace_joined, world_joined}
 

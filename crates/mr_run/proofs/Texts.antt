@@ -2,7 +2,7 @@
 use Rattle.std.proofs.Common.{◌≡◌, ◌∙◌, ◌==◌, ℕ, Bool, true, false, not, List, [], ◌∷◌, Result, Err, length, map, if◌then◌else◌, refl, ap, sym, arith, inl, inr}
 use Rattle.std.proofs.lemmas.Bool.Decides.{eqb_tells}
 use mathlib.Core.Bool.{true≢false}
-use Rattle.mr_lex.specs.Cutting.{Part, Rest, as_part, is_blank, rest_of}
+use Rattle.mr_lex.specs.Cutting.{Rest, as_part, is_blank, rest_of}
 use Rattle.mr_spec.specs.Grammar.{parsed}
 use Rattle.mr_spec.specs.ScriptRun.{read_part}
 use Rattle.mr_types.specs.declared.statement.Statement.{Statement}

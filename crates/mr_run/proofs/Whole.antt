@@ -1,9 +1,9 @@
 -- From an opening and the statements served after it to a whole run.
-use Rattle.std.proofs.Common.{◌≡◌, ℕ, ◌+◌, ◌<◌, length, List, [], Some, None, Option, refl, ap, sym, ◌∙◌, inl, inr, subst, arith, append-nil, Bool, true, false, cond, ◌||◌, Result, Ok, Err, IsErrAnd, OnOk, IfOk}
+use Rattle.std.proofs.Common.{◌≡◌, ℕ, ◌+◌, ◌<◌, length, List, [], Some, None, Option, refl, ap, sym, ◌∙◌, inl, inr, subst, arith, append-nil, Bool, true, false, cond, ◌||◌, Result, Ok, Err, IsErrAnd}
 use Rattle.std.proofs.lemmas.List.{append_cancel_left}
 use mathlib.Core.Bool.{true≢false}
 use Rattle.mr_base.specs.Disk.{State, Moment, Tells, NothingPending, present, seen, file_of}
-use Rattle.mr_base.specs.Calls.{During, Same}
+use Rattle.mr_base.specs.Calls.{During}
 use Rattle.mr_base.specs.Source.{SourceState, ClockState}
 use Rattle.mr_base.specs.declared.stop.Stop.{Stop}
 use Rattle.mr_base.specs.declared.stop.Stop.TheVariants.{Memory, Disk, Full, Damaged}
@@ -14,7 +14,7 @@ use Rattle.mr_spec.specs.Replay.{reopened}
 use Rattle.mr_spec.specs.ScriptRun.{Event, IsWithin, run_of, output_of, has_error, statements_of}
 use Rattle.mr_types.specs.declared.row.Commit.{Commit}
 use Rattle.mr_spec.specs.Lawful.{IsLawful}
-use Rattle.mr_commit_log.specs.Appending.{IsSettled, early}
+use Rattle.mr_commit_log.specs.Appending.{IsSettled}
 use Rattle.mr_commit_log.specs.Folder.{Holds, StandsFor, IsReadable}
 use Rattle.mr_commit_log.specs.Opening.{IsKept, IsDamagedAt, IsOpeningCause}
 use Rattle.mr_commit_log.specs.declared.ending.Ending.{Ending}

@@ -1,7 +1,7 @@
 -- Why a run ends early, and what shows it.
 use Rattle.std.specs.Prelude.{◌≡◌, ℕ}
 use Rattle.mr_base.specs.Disk.{State, HasRisen}
-use Rattle.mr_base.specs.Source.{SourceState, ClockState}
+use Rattle.mr_base.specs.Source.{SourceState}
 use Rattle.mr_commit_log.specs.Causes.{IsCausedBy}
 use Rattle.mr_commit_log.specs.declared.ending.Ending.{Ending}
 use Rattle.mr_commit_log.specs.declared.ending.Ending.TheVariants.{Stopped, EmitFault, SourceFault, TooLong}

@@ -1,5 +1,5 @@
 -- What the words of the command line say to a run.
-use Rattle.std.specs.Prelude.{ℕ, ◌^◌, List, Option, Some, None, unwrap_or, option_and_then}
+use Rattle.std.specs.Prelude.{ℕ, ◌^◌, List, Option, unwrap_or, option_and_then}
 use Rattle.mr_words.specs.Form.{options_in}
 use Rattle.mr_words.specs.declared.options.Options.{Options}
 

@@ -1,5 +1,5 @@
 -- What is left where events ended early.
-use Rattle.std.proofs.Common.{◌≡◌, ℕ, ◌<◌, List, [], ◌∷◌, ◌++◌, length, take, ap, sym, ◌∙◌, subst, arith, append_assoc, append-nil, length-append, length-take-le, Option, Some, None, IfSome, Result, Ok, Err, IsErrAnd, IfErr, OnOk}
+use Rattle.std.proofs.Common.{◌≡◌, ℕ, ◌<◌, List, [], ◌∷◌, ◌++◌, length, take, ap, sym, ◌∙◌, subst, arith, append_assoc, append-nil, length-append, length-take-le, Option, Some, None, IfSome}
 use Rattle.mr_base.specs.Disk.{State}
 use Rattle.mr_base.specs.declared.stop.Stop.TheVariants.{Memory, Disk, Full, Damaged}
 use Rattle.mr_base.specs.declared.stop.FullKind.{FullKind}

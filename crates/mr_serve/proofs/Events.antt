@@ -1,5 +1,5 @@
 -- Moments of a run of events.
-use Rattle.std.proofs.Common.{◌≡◌, ℕ, ◌+◌, min, ◌<◌, ◌≤◌, suc, List, [], ◌∷◌, ◌++◌, length, take, Option, Some, None, Result, refl, ap, sym, ◌∙◌, inl, inr, arith, append_assoc, length-append, append-nil, subst, drop, take_all}
+use Rattle.std.proofs.Common.{◌≡◌, ℕ, ◌+◌, min, ◌<◌, ◌≤◌, suc, List, [], ◌∷◌, ◌++◌, length, take, Some, None, Result, refl, ap, sym, ◌∙◌, inl, inr, arith, append_assoc, length-append, append-nil, drop, take_all}
 use Rattle.std.specs.Fmt.{decimal}
 use Rattle.std.specs.List.{flat_map}
 use Rattle.std.proofs.lemmas.Bool.{eq-eqb, cases_lt}

@@ -1,5 +1,5 @@
 -- Commits that were read make tables of few columns.
-use Rattle.std.proofs.Common.{◌≡◌, ℕ, List, [], ◌∷◌, Some, Ok, ap, sym, subst}
+use Rattle.std.proofs.Common.{◌≡◌, ℕ, List, [], ◌∷◌, Some, Ok, sym, subst}
 use Rattle.mr_types.specs.declared.row.Commit.{Commit}
 use Rattle.mr_binlog.specs.CommitForm.{reads_commit}
 use Rattle.mr_schema.specs.Few.{FewInBody, FewColumns}

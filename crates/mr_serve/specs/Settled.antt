@@ -1,5 +1,5 @@
 -- What is known of a host while events run: what file 1 holds, and what is out.
-use Rattle.std.specs.Prelude.{◌≡◌, ℕ, ◌+◌, ◌-◌, ◌^◌, ◌<◌, min, List, ◌∷◌, [], ◌++◌, length, Option, Some, None, IfSome}
+use Rattle.std.specs.Prelude.{◌≡◌, ℕ, ◌+◌, ◌-◌, ◌^◌, ◌<◌, min, List, ◌∷◌, ◌++◌, length, Option, Some, None, IfSome}
 use Rattle.mr_base.specs.Disk.{State, Moment, Tells, MayLeave, present}
 use Rattle.mr_base.specs.Calls.{During}
 use Rattle.mr_base.specs.declared.stop.Stop.TheVariants.{Memory, Disk, Full, Damaged}

@@ -21,8 +21,8 @@ use mr_base::{Host, Stop};
 use mr_binlog::Binlog;
 use mr_commit_log::{Ending, Opened, append_all, emit_all};
 use mr_model::{Engine, Read, step};
-use mr_sound::{openings_are_sound, statements_keep_worlds_sound};
 use mr_print::reply_text;
+use mr_sound::{openings_are_sound, statements_keep_worlds_sound};
 use mr_types::{Commit, Reply};
 use std::alloc::Global;
 

@@ -1,4 +1,4 @@
-use Rattle.std.proofs.Common.{◌≡◌, ◌∙◌, List, ℕ, sym, arith}
+use Rattle.std.proofs.Common.{◌∙◌, sym}
 use Rattle.std.specs.Prelude.{map, string_bytes}
 use Rattle.mr_run.proofs.Concluding.{headline_done, headline_early}
 use Rattle.mr_run.proofs.Whole.{damaged_unreadable, low_status}

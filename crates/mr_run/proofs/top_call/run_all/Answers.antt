@@ -3,9 +3,6 @@ use Rattle.mr_run.proofs.Readable.{readable_served, unreadable_none}
 use Rattle.mr_run.proofs.Whole.{settled_at_rest, run_unopened, run_cut, run_done}
 use Rattle.mr_run.proofs.top_call.run_all.Goals as goal
 
-
-
-
 pub returns-in_err-open-clause-runs : goal.returns-in_err-open-clause-runs
 returns-in_err-open-clause-runs g c = λ tells commits stands pending.
     run_unopened _ _ c.args.report.now.taken _ _ _ _ c.from_residual.result c.in_err-open.field-0.0 commits c.from_residual.ensures.1 c.in_err-open.ensures.cause stands.lawful c.requires.fresh.0 c.requires.fresh.1 (goes_tells _ _ c.in_err-open.ensures.goes_on tells)

@@ -1,4 +1,4 @@
-use Rattle.std.proofs.Common.{◌∙◌, ◌++◌, ◌∷◌, [], sym, ap, refl, true, false}
+use Rattle.std.proofs.Common.{◌∙◌, ◌++◌, ◌∷◌, [], sym, refl, true, false}
 use Rattle.mr_run.proofs.Parts.{kept_of, ended_text, ended_holds, blank_holds, blank_ends, inside_holds, inside_ends}
 use Rattle.mr_run.proofs.part.Part.feed.Goals as goal
 

@@ -1,4 +1,4 @@
-use Rattle.std.proofs.Common.{◌∙◌, sym, ap, arith}
+use Rattle.std.proofs.Common.{◌∙◌, arith}
 use Rattle.mr_run.proofs.Capped.{kept_more, kept_full}
 use Rattle.mr_run.proofs.part.Part.keep.Goals as goal
 

@@ -1,4 +1,4 @@
-use Rattle.std.proofs.Common.{◌∙◌, ◌∷◌, [], List, Result, ℕ, None, Some, subst, sym, ap, map}
+use Rattle.std.proofs.Common.{◌∙◌, List, Result, ℕ, None, subst, sym, ap, map}
 use Rattle.mr_lex.specs.Cutting.{as_part}
 use Rattle.mr_spec.specs.ScriptRun.{read_part}
 use Rattle.mr_types.specs.declared.statement.Statement.{Statement}

@@ -1,8 +1,5 @@
-use Rattle.std.proofs.Common.{◌∙◌, ◌+◌, ℕ, List, None, Some, refl, sym, subst, take, take_all, get_or}
-use Rattle.mr_commit_log.specs.Appending.{early}
-use Rattle.mr_commit_log.specs.Causes.{IsCausedBy}
-use Rattle.mr_commit_log.proofs.Early.{err_is}
-use Rattle.mr_commit_log.proofs.GoingOn.{goes_nowhere, goes_then, cause_later}
+use Rattle.std.proofs.Common.{◌∙◌, ℕ, List, None, refl, subst, take, take_all, get_or}
+use Rattle.mr_commit_log.proofs.GoingOn.{goes_nowhere, goes_then}
 use Rattle.mr_run.specs.Clocks.{clock_of}
 use Rattle.mr_run.specs.Cutting.{left_by, statements_in}
 use Rattle.mr_run.specs.Holding.{Holds}

@@ -1,17 +1,12 @@
-use Rattle.std.proofs.Common.{◌≡◌, ◌∙◌, ◌≤◌, List, ℕ, Option, Some, None, map, ◌++◌, ap, sym, subst, refl, take, drop, arith, IsTrue, Err, Ok, Result, OnOk, IfErr, length, ◌+◌}
+use Rattle.std.proofs.Common.{◌≡◌, ◌∙◌, ◌≤◌, List, ℕ, Some, None, map, ◌++◌, ap, sym, refl, take, drop, arith, IsTrue, Err, Ok, Result, OnOk, length, ◌+◌}
 use Rattle.std.proofs.lemmas.List.{take-append-le, length-take, length-take-le}
 use Rattle.mr_lex.specs.Cutting.{rest_of}
 use Rattle.mr_spec.specs.ScriptRun.{read_part}
 use Rattle.mr_commit_log.specs.Appending.{early}
-use Rattle.mr_commit_log.proofs.Early.{err_is}
 use Rattle.mr_commit_log.proofs.GoingOn.{goes_nowhere, goes_then}
-use Rattle.mr_run.specs.Causes.{IsScriptCause}
-use Rattle.mr_run.specs.Clocks.{clock_of}
 use Rattle.mr_run.specs.Cutting.{statements_in}
-use Rattle.mr_run.specs.Holding.{Holds}
-use Rattle.mr_run.specs.Serving.{Serves}
 use Rattle.mr_run.proofs.Feeding.{served_given, goes_then as clocks_then}
-use Rattle.mr_run.proofs.Taking.{taken_start, taken_same, taken_on, is_taken, is_taken_more, script_failed, script_too_long, script_cut_inside, script_done, nothing_taken, script_cause, script_causes}
+use Rattle.mr_run.proofs.Taking.{taken_start, taken_same, taken_on, is_taken, is_taken_more, script_failed, script_too_long, script_cut_inside, script_done, nothing_taken}
 use Rattle.mr_run.proofs.shell.Shell.serve_all.Goals as goal
 
 on_any : {T E : Type 0} (P : Type 0) (r : Result T E) → P → OnOk r P

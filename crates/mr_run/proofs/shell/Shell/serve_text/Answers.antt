@@ -1,4 +1,4 @@
-use Rattle.std.proofs.Common.{◌∙◌, ◌==◌, ◌∷◌, [], List, Result, ℕ, None, subst, sym, length, true, false}
+use Rattle.std.proofs.Common.{◌∙◌, List, Result, ℕ, None, subst, sym}
 use Rattle.mr_types.specs.declared.statement.Statement.{Statement}
 use Rattle.mr_commit_log.specs.Appending.{early}
 use Rattle.mr_run.specs.Clocks.{clock_of}

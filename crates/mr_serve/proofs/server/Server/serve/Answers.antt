@@ -2,11 +2,10 @@ use Rattle.std.proofs.Common.{◌∙◌, [], ◌∷◌, None, ap, drop}
 use Rattle.mr_base.proofs.Counting.{emit_tells}
 use Rattle.mr_base.specs.declared.stop.Stop.TheVariants.{Memory}
 use Rattle.mr_commit_log.specs.declared.ending.Ending.TheVariants.{Stopped, EmitFault}
-use Rattle.mr_commit_log.proofs.Appending.{ready_shown}
-use Rattle.mr_commit_log.proofs.GoingOn.{goes_tells, goes_emitted, goes_then}
+use Rattle.mr_commit_log.proofs.GoingOn.{goes_tells}
 use Rattle.mr_spec.specs.ScriptRun.{event_at}
 use Rattle.mr_serve.proofs.Running.{runs_nothing, runs_cut, runs_early, runs_append, runs_shown, runs_done}
-use Rattle.mr_serve.proofs.Stepping.{added_is, text_is, world_is, failed_is, lawful_added}
+use Rattle.mr_serve.proofs.Stepping.{added_is, text_is, world_is, lawful_added}
 use Rattle.mr_serve.proofs.server.Server.serve.Goals as goal
 
 pub returns-in_err-reply-clause-runs : goal.returns-in_err-reply-clause-runs
