@@ -103,7 +103,7 @@ def table(files):
             for line in file:
                 if re.fullmatch(r"\w+ \w+ [0-9.]+", line.strip()):
                     crate, kind, seconds = line.split()
-                    spent[crate][kind] = float(seconds)
+                    spent[crate][kind] += float(seconds)
     print("| crate | " + " | ".join(KINDS) + " | all |")
     print("|---|" + "---|" * (len(KINDS) + 1))
     for crate, kinds in sorted(spent.items(), key=lambda entry: -sum(entry[1].values())):

@@ -188,7 +188,8 @@ fn a_stop_in_the_reopening(rt: HostRuntime) -> Result<(), Fail> {
 /// The syncs and the faults of a run that is stopped right before the reply to the row, and whether the row is there behind each crash.
 /// One sync makes the log, and each of the two commits has two.
 fn row_before_its_reply(alloc: Global, choice: Choice) -> Result<(u8, u64, u64, bool), Memory> {
-    let script = b"CREATE TABLE t (id BIGINT NOT NULL, v BIGINT, PRIMARY KEY (id)); INSERT INTO t VALUES (1,2);";
+    let script =
+        b"CREATE TABLE t (id BIGINT NOT NULL, v BIGINT, PRIMARY KEY (id)); INSERT INTO t VALUES (1,2);";
     let case = Case {
         script,
         answers: "ROWS 1/1\t2/",
@@ -201,14 +202,18 @@ fn row_before_its_reply(alloc: Global, choice: Choice) -> Result<(u8, u64, u64, 
     let counts = (host.syncs(), host.faults());
     let mut host = crash(host, choice)?;
     let answers = answers_of(alloc, &case, &mut host)?;
-    let is_there = answers.is_some_and(|answers| answers.as_slice() == b"ROWS 1\n1\t2\n".as_slice());
+    let is_there = answers.is_some_and(|answers| answers.as_slice()
+        == b"ROWS 1\n1\t2\n".as_slice());
     Ok((ended.status, counts.0, counts.1, is_there))
 }
 
 #[test]
 fn a_commit_outlives_its_reply(rt: HostRuntime) -> Result<(), Fail> {
     for choice in CHOICES {
-        assert_eq!(rt; row_before_its_reply(rt.alloc(), choice), Ok((6, 5, 0, true)));
+        assert_eq!(rt;
+            row_before_its_reply(rt.alloc(), choice),
+            Ok((6, 5, 0, true))
+        );
     }
     Ok(())
 }

@@ -74,7 +74,11 @@ fn is_in_the_format(alloc: Global, choice: Choice) -> Result<bool, Memory> {
 #[test]
 fn the_log_is_as_in_the_format(rt: HostRuntime) -> Result<(), Fail> {
     for choice in CHOICES {
-        assert_eq!(rt; is_in_the_format(rt.alloc(), choice), Ok(true), "{choice:?}");
+        assert_eq!(rt;
+            is_in_the_format(rt.alloc(), choice),
+            Ok(true),
+            "{choice:?}"
+        );
     }
     Ok(())
 }

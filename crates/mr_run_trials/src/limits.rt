@@ -57,7 +57,13 @@ fn shown(alloc: Global, pattern: &str) -> Result<Vec<u8>, AllocError> {
     let mut all = Vec::new(alloc);
     for part in pattern.split('~') {
         if let Some((count, text)) = part.split_once('*') {
-            add_each(alloc, &mut all, count.trim().parse().unwrap_or(0), text, &long)?;
+            add_each(
+                alloc,
+                &mut all,
+                count.trim().parse().unwrap_or(0),
+                text,
+                &long,
+            )?;
         }
     }
     Ok(all)
@@ -73,7 +79,8 @@ fn is_served(alloc: Global, script: &str, output: &str) -> Result<bool, Memory> 
 /// The 65th session is refused, and the 64th one stays current: its own row is in the way, and no other session's claim.
 #[test]
 fn sessions_may_be_too_many(rt: HostRuntime) -> Result<(), Fail> {
-    let script = "1*CREATE TABLE t (id BIGINT NOT NULL, v BIGINT, PRIMARY KEY (id)); ~63*SESSION s?; ~1*BEGIN; INSERT INTO t VALUES (1,1); SESSION s64; INSERT INTO t VALUES (1,2); COMMIT; SELECT v FROM t;";
+    let script =
+        "1*CREATE TABLE t (id BIGINT NOT NULL, v BIGINT, PRIMARY KEY (id)); ~63*SESSION s?; ~1*BEGIN; INSERT INTO t VALUES (1,1); SESSION s64; INSERT INTO t VALUES (1,2); COMMIT; SELECT v FROM t;";
     let output = "1*OK 0/~63*OK 0/~1*OK 0/OK 1/ERROR 1040/ERROR 1062/OK 0/ROWS 1/1/";
     assert_eq!(rt; is_served(rt.alloc(), script, output), Ok(true));
     Ok(())
@@ -82,7 +89,8 @@ fn sessions_may_be_too_many(rt: HostRuntime) -> Result<(), Fail> {
 /// An index over more rows than are filled in one portion.
 #[test]
 fn an_index_is_filled_in_portions(rt: HostRuntime) -> Result<(), Fail> {
-    let script = "1*CREATE TABLE t (id BIGINT NOT NULL, v BIGINT, PRIMARY KEY (id)); ~600*INSERT INTO t VALUES (?,?); ~1*BEGIN INDEX k ON t (v); WORK 10; FINISH INDEX k ON t; SELECT id FROM t FORCE INDEX (k) WHERE v=577;";
+    let script =
+        "1*CREATE TABLE t (id BIGINT NOT NULL, v BIGINT, PRIMARY KEY (id)); ~600*INSERT INTO t VALUES (?,?); ~1*BEGIN INDEX k ON t (v); WORK 10; FINISH INDEX k ON t; SELECT id FROM t FORCE INDEX (k) WHERE v=577;";
     let output = "1*OK 0/~600*OK 1/~1*OK 0/OK 0/OK 0/ROWS 1/577/";
     assert_eq!(rt; is_served(rt.alloc(), script, output), Ok(true));
     Ok(())
@@ -91,7 +99,8 @@ fn an_index_is_filled_in_portions(rt: HostRuntime) -> Result<(), Fail> {
 /// An update that moves 256 long rows is too heavy, and one of 255 isn't.
 #[test]
 fn an_update_may_be_too_heavy(rt: HostRuntime) -> Result<(), Fail> {
-    let script = "1*CREATE TABLE q (id BIGINT NOT NULL, p VARBINARY(65535), PRIMARY KEY (id)); ~256*INSERT INTO q VALUES (?,'#'); ~1*UPDATE q SET id=id+1000; DELETE FROM q WHERE id=256; UPDATE q SET id=id+1000; SELECT MIN(id),MAX(id) FROM q;";
+    let script =
+        "1*CREATE TABLE q (id BIGINT NOT NULL, p VARBINARY(65535), PRIMARY KEY (id)); ~256*INSERT INTO q VALUES (?,'#'); ~1*UPDATE q SET id=id+1000; DELETE FROM q WHERE id=256; UPDATE q SET id=id+1000; SELECT MIN(id),MAX(id) FROM q;";
     let output = "1*OK 0/~256*OK 1/~1*ERROR 1197/OK 1/OK 255/ROWS 1/1001\t1255/";
     assert_eq!(rt; is_served(rt.alloc(), script, output), Ok(true));
     Ok(())
@@ -100,7 +109,8 @@ fn an_update_may_be_too_heavy(rt: HostRuntime) -> Result<(), Fail> {
 /// A transaction of 512 long rows is too heavy, and keeps the 511 before the last one.
 #[test]
 fn a_transaction_may_be_too_heavy(rt: HostRuntime) -> Result<(), Fail> {
-    let script = "1*CREATE TABLE q (id BIGINT NOT NULL, p VARBINARY(65535), PRIMARY KEY (id)); BEGIN; ~512*INSERT INTO q VALUES (?,'#'); ~1*COMMIT; SELECT COUNT(*) FROM q;";
+    let script =
+        "1*CREATE TABLE q (id BIGINT NOT NULL, p VARBINARY(65535), PRIMARY KEY (id)); BEGIN; ~512*INSERT INTO q VALUES (?,'#'); ~1*COMMIT; SELECT COUNT(*) FROM q;";
     let output = "2*OK 0/~511*OK 1/~1*ERROR 1197/OK 0/ROWS 1/511/";
     assert_eq!(rt; is_served(rt.alloc(), script, output), Ok(true));
     Ok(())
@@ -119,12 +129,17 @@ fn run_full(
     let ended = serve_with(alloc, "run f --now=7 --log-limit=65536", &script, &mut host)?;
     let is_out = host.output() == output.as_slice();
     let is_counted = gives(alloc, b"SELECT COUNT(*) FROM t;", count, &mut host)?;
-    Ok(if is_out && is_counted { Some(ended) } else { None })
+    Ok(if is_out && is_counted {
+        Some(ended)
+    } else {
+        None
+    })
 }
 
 #[test]
 fn a_log_may_be_full(rt: HostRuntime) -> Result<(), Fail> {
-    let script = "1*CREATE TABLE t (id BIGINT NOT NULL, v BIGINT, PRIMARY KEY (id)); ~2000*INSERT INTO t VALUES (?,?);";
+    let script =
+        "1*CREATE TABLE t (id BIGINT NOT NULL, v BIGINT, PRIMARY KEY (id)); ~2000*INSERT INTO t VALUES (?,?);";
     let output = "1*OK 0/~1597*OK 1/";
     let full = Stop::Full {
         what: FullKind::Log(1),

@@ -1,7 +1,7 @@
 //! Scripts that are served to their end.
 
 use crate::rows::ROWS;
-use crate::running::{AT_SEVEN, CHOICES, Ended, crash, without_stop, lines_of, run_line};
+use crate::running::{AT_SEVEN, CHOICES, Ended, crash, lines_of, run_line, without_stop};
 use mr_base::Memory;
 use mr_memhost::{Choice, ListClock, MemHost, MemSource};
 use std::alloc::{AllocError, Global};
@@ -21,13 +21,13 @@ fn values_of(alloc: Global, text: &str) -> Result<Vec<u64>, AllocError> {
 /// How a script with these replies ends: with status 1 where some reply is an error.
 fn ending_of(script: &str, replies: &str) -> Ended {
     let mut status = 0;
-    let mut statements = 0;
+    let mut statements = 0_u64;
     for line in replies.split('/') {
         if line.starts_with("ERROR ") {
             status = 1;
-            statements += 1;
+            statements = statements.saturating_add(1);
         } else if line.starts_with("OK ") || line.starts_with("ROWS ") {
-            statements += 1;
+            statements = statements.saturating_add(1);
         }
     }
     without_stop(status, script.len(), statements)

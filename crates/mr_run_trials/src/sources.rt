@@ -1,6 +1,6 @@
 //! Sources that fail or have no end, and an output that fails.
 
-use crate::running::{AT_SEVEN, CHOICES, Ended, crash, without_stop, gives, run_line, serve};
+use crate::running::{AT_SEVEN, CHOICES, Ended, crash, gives, run_line, serve, without_stop};
 use mr_base::{Memory, Source, SourceFault};
 use mr_memhost::{Choice, ListClock, MemHost, MemSource};
 use std::alloc::Global;
@@ -19,8 +19,14 @@ fn run_failing(alloc: Global, piece: usize) -> Result<(Ended, usize), Memory> {
 
 #[test]
 fn a_source_that_fails(rt: HostRuntime) -> Result<(), Fail> {
-    assert_eq!(rt; run_failing(rt.alloc(), 10), Ok((without_stop(4, 10, 0), 0)));
-    assert_eq!(rt; run_failing(rt.alloc(), 4096), Ok((without_stop(4, 64, 1), 5)));
+    assert_eq!(rt;
+        run_failing(rt.alloc(), 10),
+        Ok((without_stop(4, 10, 0), 0))
+    );
+    assert_eq!(rt;
+        run_failing(rt.alloc(), 4096),
+        Ok((without_stop(4, 64, 1), 5))
+    );
     Ok(())
 }
 
@@ -50,7 +56,10 @@ fn run_endless(alloc: Global) -> Result<Ended, Memory> {
 
 #[test]
 fn a_source_without_an_end(rt: HostRuntime) -> Result<(), Fail> {
-    assert_eq!(rt; run_endless(rt.alloc()), Ok(without_stop(8, 1_073_741_825, 0)));
+    assert_eq!(rt;
+        run_endless(rt.alloc()),
+        Ok(without_stop(8, 1_073_741_825, 0))
+    );
     Ok(())
 }
 
@@ -71,14 +80,22 @@ fn run_unheard(alloc: Global, choice: Choice) -> Result<Option<Ended>, Memory> {
     let is_silent = host.output().is_empty() && host.emit_faults() == 1;
     let mut host = crash(host, choice)?;
     let is_there = gives(alloc, b"SELECT * FROM t;", "ROWS 0/", &mut host)?;
-    Ok(if is_silent && is_there { Some(ended) } else { None })
+    Ok(if is_silent && is_there {
+        Some(ended)
+    } else {
+        None
+    })
 }
 
 #[test]
 fn an_output_that_fails(rt: HostRuntime) -> Result<(), Fail> {
     for choice in CHOICES {
         let unheard = without_stop(6, 64, 0);
-        assert_eq!(rt; run_unheard(rt.alloc(), choice), Ok(Some(unheard)), "{choice:?}");
+        assert_eq!(rt;
+            run_unheard(rt.alloc(), choice),
+            Ok(Some(unheard)),
+            "{choice:?}"
+        );
     }
     Ok(())
 }

@@ -1,6 +1,6 @@
 //! Words, and the moment that they give.
 
-use crate::running::{Ended, without_stop, run_line};
+use crate::running::{Ended, run_line, without_stop};
 use mr_base::Memory;
 use mr_memhost::{ListClock, MemHost, MemSource};
 use std::alloc::Global;
