@@ -21,18 +21,13 @@ const ROW: [u8; 41] = [
     0, 0, 1, 1, 0, 0, 0, 0, 0, 0, 0, 2,
 ];
 
-/// A log in words: `table` and `row` for the two commits, `early` for the row's at moment 6, and a number for each other byte.
+/// A log in words: `table` and `row` for the two commits, and a number for each other byte.
 fn log_of(alloc: Global, words: &str) -> Result<Vec<u8>, AllocError> {
     let mut log = Vec::new(alloc);
     for word in words.split(' ') {
         match word {
             "table" => log.extend_from_slice(&TABLE)?,
             "row" => log.extend_from_slice(&ROW)?,
-            "early" => {
-                log.extend_from_slice(&ROW[..12])?;
-                log.push(6)?;
-                log.extend_from_slice(&ROW[13..])?;
-            }
             _ => log.push(word.parse().unwrap_or(0))?,
         }
     }
@@ -83,16 +78,12 @@ fn the_log_is_as_in_the_format(rt: HostRuntime) -> Result<(), Fail> {
     Ok(())
 }
 
-/// Logs that are damaged, each with the first offending place: a gate with no whole record behind it, a body with a kind that is none, no gate
-/// behind the last record, a table whose name is taken, a row without its table, a row whose key is there, and a moment that falls.
+/// Logs that are damaged, each with the first offending place: a gate with no whole record behind it, a body with a kind that is none, and
+/// no gate behind the last record.
 const DAMAGED: &str = "\
 167 1 2 3|0
 167 0 0 0 9 0 0 0 0 0 0 0 7 9 0|13
-table row|42
-table table 0|42
-row 0|0
-table row row 0|83
-table early 0|42";
+table row|42";
 
 /// How a run on the folder ends, where it puts nothing out and the log stays.
 fn refusal_of(alloc: Global, words: &str) -> Result<Option<Ended>, Memory> {
