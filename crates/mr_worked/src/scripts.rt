@@ -1,5 +1,8 @@
 //! Worked scripts, run by the plain program.
 
+ghost use Rattle.std.specs.Prelude.{IfOk, IfSome};
+ghost use Rattle.mr_schema.specs.Few.{FewColumns};
+
 use crate::replies::{REOPENED, ROWS};
 use mr_base::{Clock, Memory};
 use mr_model::run_script;
@@ -73,7 +76,9 @@ fn commits_of(
     values: &[u8],
     script: &[u8],
     replies: &[u8],
-) -> Result<Option<Items<Commit>>, Memory> {
+) -> Result<Option<Items<Commit>>, Memory>
+    ensures few { IfOk result (λ found. IfSome found (λ commits. FewColumns commits)) }
+{
     let ran = run_script(
         alloc,
         Items::new(alloc),
@@ -88,7 +93,9 @@ fn commits_of(
 }
 
 /// Whether a run on these commits gives the replies of a row.
-fn is_right_on(alloc: Global, commits: Items<Commit>, row: &[u8]) -> Result<bool, Memory> {
+fn is_right_on(alloc: Global, commits: Items<Commit>, row: &[u8]) -> Result<bool, Memory>
+    requires few { FewColumns commits }
+{
     let (values, rest) = halves(row);
     let (script, replies) = halves(rest);
     let ran = run_script(alloc, commits, script, &mut Values { left: values })?;
