@@ -1,4 +1,4 @@
-//! Scripts at the limits: a long statement, a full log, many sessions, and heavy transactions.
+//! Scripts at the limits: a long statement, a full log, many sessions, and an index over many rows.
 
 use crate::running::{Ended, gives, puts_out, serve_with};
 use mr_base::{FullKind, Memory, Stop};
@@ -28,21 +28,13 @@ fn a_statement_may_be_too_long(rt: HostRuntime) -> Result<(), Fail> {
     Ok(())
 }
 
-/// Adds a text for each number from 1 on, so many times: with the number for each `?`, a long text for each `#`, and the end of a line
-/// for each `/`.
-fn add_each(
-    alloc: Global,
-    all: &mut Vec<u8>,
-    count: u64,
-    text: &str,
-    long: &[u8],
-) -> Result<(), AllocError> {
+/// Adds a text for each number from 1 on, so many times: with the number for each `?` and the end of a line for each `/`.
+fn add_each(alloc: Global, all: &mut Vec<u8>, count: u64, text: &str) -> Result<(), AllocError> {
     for number in 0..count {
         let digits = (number + 1).to_string(alloc)?;
         for byte in text.as_bytes() {
             match *byte {
                 b'?' => all.extend_from_slice(digits.as_bytes())?,
-                b'#' => all.extend_from_slice(long)?,
                 b'/' => all.push(b'\n')?,
                 other => all.push(other)?,
             }
@@ -53,17 +45,10 @@ fn add_each(
 
 /// What a pattern shows: parts, parted by `~`, each of which is a count, a `*` and a text that is added so many times.
 fn shown(alloc: Global, pattern: &str) -> Result<Vec<u8>, AllocError> {
-    let long = vec![in alloc; b'a'; 65535]?;
     let mut all = Vec::new(alloc);
     for part in pattern.split('~') {
         if let Some((count, text)) = part.split_once('*') {
-            add_each(
-                alloc,
-                &mut all,
-                count.trim().parse().unwrap_or(0),
-                text,
-                &long,
-            )?;
+            add_each(alloc, &mut all, count.trim().parse().unwrap_or(0), text)?;
         }
     }
     Ok(all)
@@ -92,26 +77,6 @@ fn an_index_is_filled_in_portions(rt: HostRuntime) -> Result<(), Fail> {
     let script =
         "1*CREATE TABLE t (id BIGINT NOT NULL, v BIGINT, PRIMARY KEY (id)); ~600*INSERT INTO t VALUES (?,?); ~1*BEGIN INDEX k ON t (v); WORK 10; FINISH INDEX k ON t; SELECT id FROM t FORCE INDEX (k) WHERE v=577;";
     let output = "1*OK 0/~600*OK 1/~1*OK 0/OK 0/OK 0/ROWS 1/577/";
-    assert_eq!(rt; is_served(rt.alloc(), script, output), Ok(true));
-    Ok(())
-}
-
-/// An update that moves 256 long rows is too heavy, and one of 255 isn't.
-#[test]
-fn an_update_may_be_too_heavy(rt: HostRuntime) -> Result<(), Fail> {
-    let script =
-        "1*CREATE TABLE q (id BIGINT NOT NULL, p VARBINARY(65535), PRIMARY KEY (id)); ~256*INSERT INTO q VALUES (?,'#'); ~1*UPDATE q SET id=id+1000; DELETE FROM q WHERE id=256; UPDATE q SET id=id+1000; SELECT MIN(id),MAX(id) FROM q;";
-    let output = "1*OK 0/~256*OK 1/~1*ERROR 1197/OK 1/OK 255/ROWS 1/1001\t1255/";
-    assert_eq!(rt; is_served(rt.alloc(), script, output), Ok(true));
-    Ok(())
-}
-
-/// A transaction of 512 long rows is too heavy, and keeps the 511 before the last one.
-#[test]
-fn a_transaction_may_be_too_heavy(rt: HostRuntime) -> Result<(), Fail> {
-    let script =
-        "1*CREATE TABLE q (id BIGINT NOT NULL, p VARBINARY(65535), PRIMARY KEY (id)); BEGIN; ~512*INSERT INTO q VALUES (?,'#'); ~1*COMMIT; SELECT COUNT(*) FROM q;";
-    let output = "2*OK 0/~511*OK 1/~1*ERROR 1197/OK 0/ROWS 1/511/";
     assert_eq!(rt; is_served(rt.alloc(), script, output), Ok(true));
     Ok(())
 }

@@ -1,7 +1,7 @@
-//! Sources that fail or have no end, and an output that fails.
+//! A source that fails, and an output that fails.
 
 use crate::running::{AT_SEVEN, CHOICES, Ended, crash, gives, run_line, serve, without_stop};
-use mr_base::{Memory, Source, SourceFault};
+use mr_base::Memory;
 use mr_memhost::{Choice, ListClock, MemHost, MemSource};
 use std::alloc::Global;
 use std::test::Fail;
@@ -26,39 +26,6 @@ fn a_source_that_fails(rt: HostRuntime) -> Result<(), Fail> {
     assert_eq!(rt;
         run_failing(rt.alloc(), 4096),
         Ok((without_stop(4, 64, 1), 5))
-    );
-    Ok(())
-}
-
-/// A source that always gives spaces.
-#[derive(Drop)]
-struct Spaces;
-
-impl Source for Spaces {
-    ghost use Rattle.std.specs.Prelude.{false, []};
-
-    ghost source = { λ s. record { tells = false; left = []; faults = 0 } };
-
-    fn take(&mut self, out: &mut [u8]) -> Result<usize, SourceFault> {
-        for byte in out.iter_mut() {
-            *byte = b' ';
-        }
-        Ok(out.len())
-    }
-}
-
-/// How a run ends with a source of spaces that has no end.
-fn run_endless(alloc: Global) -> Result<Ended, Memory> {
-    let mut host = MemHost::new(alloc);
-    let mut clock = ListClock::new(alloc, &[])?;
-    run_line(alloc, AT_SEVEN, &mut clock, &mut Spaces, &mut host)
-}
-
-#[test]
-fn a_source_without_an_end(rt: HostRuntime) -> Result<(), Fail> {
-    assert_eq!(rt;
-        run_endless(rt.alloc()),
-        Ok(without_stop(8, 1_073_741_825, 0))
     );
     Ok(())
 }
