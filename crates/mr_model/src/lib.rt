@@ -1,5 +1,5 @@
 //! The plain program: it computes the definitions of `mr_spec` over lists, one call a definition, up
-//! to the run of a script, for whoever doubts an answer of the engine. It is slow.
+//! to one statement, which the server runs, and to the run of a script, which prints them.
 #![tactic(auto)]
 
 mod cutting;

@@ -1,4 +1,5 @@
 pub mod Answering
 pub mod Current
+pub mod Entries
 pub mod FewChecked
 pub mod FewTables

@@ -1,6 +1,7 @@
 -- How a program's engine stands for a world of the definitions.
-use Rattle.std.specs.Prelude.{ℕ, Bool, ◌||◌, List, [], ◌∷◌, Option, None, is_none, is_some}
+use Rattle.std.specs.Prelude.{ℕ, suc, Bool, ◌||◌, if◌then◌else◌, List, [], ◌∷◌, Option, None, is_none, is_some}
 use Rattle.mr_types.specs.declared.definition.IndexDef.{IndexDef}
+use Rattle.mr_types.specs.Values.{same_bytes}
 use Rattle.mr_spec.specs.World.{World, at_name}
 use Rattle.mr_model_engine.specs.declared.engine.Building.{Building}
 use Rattle.mr_model_engine.specs.declared.engine.NextNumber.{NextNumber}
@@ -15,6 +16,11 @@ building_in (e ∷ es) = at_name e.table e.key (building_in es)
 abbrev pub numbers_in : List NextNumber → List ℕ → ℕ
 numbers_in [] = λ name. 1
 numbers_in (e ∷ es) = at_name e.table e.number (numbers_in es)
+
+-- the place of a table's first entry; behind all where it has none
+abbrev pub place_among : List ℕ → List NextNumber → ℕ
+place_among name [] = 0
+place_among name (e ∷ es) = if same_bytes name e.table then 0 else suc (place_among name es)
 
 -- the lists of entries as functions, the rest as it is
 abbrev pub world_in : Engine → World

@@ -7,6 +7,7 @@ ghost use Rattle.mr_spec.specs.Database.{replay as replay_of, with_changes as ch
 ghost use Rattle.mr_spec.specs.World.{fresh as fresh_of, using_table, view_of};
 ghost use Rattle.mr_model_engine.specs.Kept.{IsKept};
 
+use crate::numbers::set_among;
 use mr_base::{Blob, Memory};
 use mr_model_rows::{in_front, with_body, with_changes};
 use mr_spec::{Session, SessionList, Table, TableList, Txn};
@@ -145,10 +146,7 @@ impl Engine {
     pub fn set_number(&mut self, alloc: Global, table: &[u8], number: u64) -> Result<(), Memory>
         ensures { OnOk result (world_in self.new ≡ with_number table.now number (world_in self.old)) }
     {
-        let table = Blob::from_slice(alloc, table)?;
-        let others = mem::replace(&mut self.numbers, Items::new(alloc));
-        self.numbers = in_front(alloc, NextNumber { table, number }, others)?;
-        Ok(())
+        set_among(alloc, &mut self.numbers, table, number)
     }
 
     /// The table's building index.

@@ -3,6 +3,7 @@
 #![tactic(auto)]
 
 mod engine;
+mod numbers;
 mod reopening;
 mod seen;
 mod views;

@@ -7,28 +7,13 @@ ghost use Rattle.mr_model_engine.specs.Worlds.{numbers_in, world_in};
 ghost use Rattle.mr_spec.specs.Replay.{last_moment as last_moment_of, numbers_by_change, numbers_by_changes, numbers_by_schema, numbers_by_body, numbers_after as numbers_behind, reopened as world_of};
 ghost use Rattle.mr_spec.specs.World.{at_name};
 
-use crate::engine::{Engine, NextNumber, fresh_session};
-use crate::views::number_among;
-use mr_base::{Blob, Memory};
-use mr_model_rows::{in_front, replay};
+use crate::engine::{Engine, fresh_session};
+use crate::numbers::{Numbers, number_among, set_among};
+use mr_base::Memory;
+use mr_model_rows::replay;
 use mr_types::{Change, Commit, CommitBody, Row, Schema};
 use sqlite_items::Items;
 use std::alloc::Global;
-
-/// Next hidden numbers: a table's first entry tells.
-type Numbers = Items<NextNumber>;
-
-fn with_number(
-    alloc: Global,
-    numbers: Numbers,
-    table: &[u8],
-    number: u64,
-) -> Result<Numbers, Memory>
-    ensures { IfOk result (λ all. numbers_in all ≡ at_name table.now number (numbers_in numbers)) }
-{
-    let table = Blob::from_slice(alloc, table)?;
-    in_front(alloc, NextNumber { table, number }, numbers)
-}
 
 /// The hidden number of an inserted row is used. Behind the last number of 64 bits there is none:
 /// want of memory stands for that.
@@ -42,7 +27,9 @@ fn used_by_row(alloc: Global, numbers: Numbers, table: &[u8], row: &Row) -> Resu
         return Err(Memory);
     };
     let next = number_among(numbers.as_slice(), table).max(behind);
-    with_number(alloc, numbers, table, next)
+    let mut numbers = numbers;
+    set_among(alloc, &mut numbers, table, next)?;
+    Ok(numbers)
 }
 
 fn used_by_change(alloc: Global, numbers: Numbers, change: &Change) -> Result<Numbers, Memory>
@@ -70,7 +57,11 @@ fn used_by_schema(alloc: Global, numbers: Numbers, change: &Schema) -> Result<Nu
     ensures { IfOk result (λ all. numbers_in all ≡ numbers_by_schema (numbers_in numbers) change.now) }
 {
     match change {
-        Schema::DropTable(name) => with_number(alloc, numbers, name.as_slice(), 1),
+        Schema::DropTable(name) => {
+            let mut numbers = numbers;
+            set_among(alloc, &mut numbers, name.as_slice(), 1)?;
+            Ok(numbers)
+        }
         Schema::CreateTable(_) => Ok(numbers),
         Schema::CreateIndex(_, _) => Ok(numbers),
         Schema::DropIndex(_, _) => Ok(numbers),

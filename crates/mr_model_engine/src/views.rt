@@ -7,10 +7,11 @@ ghost use Rattle.mr_types.specs.Values.{Answers, same_bytes};
 ghost use Rattle.mr_spec.specs.Database.{table_of as table_found, replay as replay_of};
 ghost use Rattle.mr_spec.specs.World.{has_used as used_by};
 ghost use Rattle.mr_spec.specs.SchemaSteps.{table_in as table_there, used_elsewhere as used_by_others};
-ghost use Rattle.mr_model_engine.specs.Worlds.{numbers_in, world_in};
+ghost use Rattle.mr_model_engine.specs.Worlds.{world_in};
 ghost use Rattle.mr_schema.specs.Few.{FewColumns};
 
-use crate::engine::{Engine, NextNumber};
+use crate::engine::Engine;
+use crate::numbers::number_among;
 use mr_base::{Blob, Memory};
 use mr_model_rows::{copy_table, table_of};
 use mr_spec::{Session, Table};
@@ -46,18 +47,6 @@ pub fn building_of<'a>(engine: &'a Engine, table: &[u8]) -> Option<&'a IndexDef>
         }
     }
     None
-}
-
-/// The next hidden number of a table among these.
-pub fn number_among(numbers: &[NextNumber], table: &[u8]) -> u64
-    ensures { result ≡ numbers_in numbers.now table.now }
-{
-    for entry in numbers {
-        if table == entry.table.as_slice() {
-            return entry.number;
-        }
-    }
-    1
 }
 
 /// The table's next hidden number.

@@ -32,6 +32,15 @@ pub(crate) struct Part {
     pub(crate) begun: bool,
 }
 
+/// Takes all bytes off. The room that they had stays.
+fn empty(bytes: &mut Items<u8>)
+    ensures { bytes.new ≡ [] }
+{
+    while bytes.len() > 0 {
+        bytes.pop();
+    }
+}
+
 impl Part {
     /// Nothing of a statement is read.
     pub(crate) fn new(alloc: Global) -> Part
@@ -56,12 +65,12 @@ impl Part {
     }
 
     /// Where all is blank nothing is kept, but for two dashes, which the next byte may take back.
-    fn clear_blank(&mut self, alloc: Global)
+    fn clear_blank(&mut self)
         ensures kept { (all : List ℕ) → self.old.kept ≡ take most_kept all → self.new.kept ≡ take most_kept (kept_where_blank all) }
         ensures others { (self.new.splitter ≡ self.old.splitter) × (self.new.begun ≡ self.old.begun) }
     {
         if !is_two_dashes(self.kept.as_slice()) {
-            self.kept = Items::new(alloc);
+            empty(&mut self.kept);
         }
     }
 
@@ -83,7 +92,7 @@ impl Part {
             Split::End => Ok(Some(self.end(alloc))),
             Split::Blank => {
                 self.keep(byte)?;
-                self.clear_blank(alloc);
+                self.clear_blank();
                 self.begun = false;
                 Ok(None)
             }
