@@ -41,6 +41,17 @@ impl<'a> Pieces<'a> {
         }
     }
 
+    /// The same pieces once more, at no cost.
+    pub fn lent(&self) -> Pieces<'a>
+        ensures { result ≡ self.now }
+    {
+        Pieces {
+            pieces: self.pieces,
+            unpack: self.unpack,
+            kind: self.kind,
+        }
+    }
+
     /// How many bytes the text or the bytes have.
     pub fn len(&self) -> usize
         ensures { result ≡ length self.now }
@@ -70,4 +81,18 @@ pub enum FieldRef<'a> {
     Number(i128),
     Slice(&'a [u8]),
     Pieces(Pieces<'a>),
+}
+
+impl<'a> FieldRef<'a> {
+    /// The same field once more, where it lies, at no cost.
+    pub fn lent(&self) -> FieldRef<'a>
+        ensures { result ≡ self.now }
+    {
+        match self {
+            FieldRef::Null => FieldRef::Null,
+            FieldRef::Number(number) => FieldRef::Number(*number),
+            FieldRef::Slice(slice) => FieldRef::Slice(*slice),
+            FieldRef::Pieces(pieces) => FieldRef::Pieces(pieces.lent()),
+        }
+    }
 }
