@@ -1,5 +1,6 @@
 -- Lists read and written one element after the other.
-use Rattle.std.proofs.Common.{◌≡◌, ℕ, zero, suc, ◌+◌, ◌-◌, ◌<◌, List, [], ◌∷◌, ◌++◌, length, take, get_or, refl, sym, ◌∙◌, ap, arith, add-one, append_assoc, Ok, Err}
+use Rattle.std.proofs.Common.{◌≡◌, ℕ, zero, suc, ◌+◌, ◌-◌, ◌<◌, List, [], ◌∷◌, ◌++◌, length, take, get_or, refl, sym, subst, ◌∙◌, ap, arith, add-one, append_assoc, Ok, Err}
+use Rattle.std.specs.List.{AllByRecursion}
 use Rattle.mr_types.specs.Refusals.{◌>>=◌}
 use Rattle.mr_fields.specs.declared.stop.ReadStop.{ReadStop}
 use Rattle.mr_fields.specs.declared.stop.ReadStop.TheVariants as stop
@@ -52,3 +53,12 @@ module _ {X : Type 0} (write : X → List ℕ) (all : List X → List ℕ) (none
       ∙ ap (λ (ys : List ℕ). ys ++ write x) so_far
       ∙ append_assoc old (all (take i xs)) (write x)
       ∙ ap (λ (ys : List ℕ). old ++ ys) (sym (ap (λ (m : ℕ). all (take m xs)) (add-one i) ∙ written_to xs i x lt is))
+
+-- one more has the property, of those up to a place
+next_has : {X : Type 0} (P : X → Type 0) (xs : List X) (i : ℕ) (x : X) → i < length xs → x ≡ get_or xs i x → AllByRecursion P (take i xs) → P x → AllByRecursion P (take (suc i) xs)
+next_has P [] i x lt is all holds = absurd (omega arith)
+next_has P (y ∷ xs) zero x lt is all holds = (subst P is holds, tt)
+next_has P (y ∷ xs) (suc i) x lt is all holds = (all.0, next_has P xs i x (omega arith) is all.1 holds)
+
+pub one_more_has : {X : Type 0} (P : X → Type 0) (xs : List X) (i : ℕ) (x : X) → i < length xs → x ≡ get_or xs i x → AllByRecursion P (take i xs) → P x → AllByRecursion P (take (i + 1) xs)
+one_more_has P xs i x lt is all holds = subst (λ (n : ℕ). AllByRecursion P (take n xs)) (sym (add-one i)) (next_has P xs i x lt is all holds)

@@ -27,6 +27,17 @@ ValueFits (Number n) = NumberFits n
 ValueFits (Text text) = TextFits text
 ValueFits (Bytes bytes) = length bytes < 2 ^ 16
 
+-- each number and each length has its place in its field
+abbrev pub ValueHasPlace : Value → Type 0
+ValueHasPlace Null = ⊤
+ValueHasPlace (Number n) = NumberFits n
+ValueHasPlace (Text text) = length text < 2 ^ 16
+ValueHasPlace (Bytes bytes) = length bytes < 2 ^ 16
+
+pub record RowHasPlace (row : Row) : Type 0 where
+  pub count : length row.fields < 2 ^ 8
+  pub fields : AllByRecursion ValueHasPlace row.fields
+
 abbrev pub GivenFits : Option ℕ → Type 0
 GivenFits None = ⊤
 GivenFits (Some n) = n < 2 ^ 64

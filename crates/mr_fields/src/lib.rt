@@ -7,6 +7,7 @@
 
 mod numbers;
 mod rows;
+mod sizes;
 mod stop;
 mod texts;
 mod write;
@@ -14,6 +15,7 @@ mod write_rows;
 
 pub use numbers::{byte_at, flag_at, u16_at, u32_at, u64_at};
 pub use rows::{row_at, value_at};
+pub use sizes::{change_weight, is_equal_row, row_size};
 pub use stop::{Offence, ReadStop, answer_of, end_of};
 pub use texts::{bytes16_at, name_at, text16_at};
 pub use write::{

@@ -1,6 +1,6 @@
 //! Fields written behind bytes. A length that has no place in its field is answered as want of memory.
 
-ghost use Rattle.std.specs.Prelude.{◌≡◌, ◌++◌, ◌∷◌, [], OnOk};
+ghost use Rattle.std.specs.Prelude.{◌≡◌, ◌<◌, ◌^◌, ◌++◌, ◌∷◌, [], length, OnOk};
 ghost use Rattle.byteorder.specs.Endian.{big_bytes};
 ghost use Rattle.mr_spec.specs.RowForm.{text16_bytes};
 ghost use Rattle.mr_fields.specs.Fields.{flag_byte, name_bytes};
@@ -57,9 +57,10 @@ pub fn write_u64(out: &mut Vec<u8>, number: u64) -> Result<(), Memory>
     write_bytes(out, &bytes)
 }
 
-/// Adds a count of one byte.
+/// Adds a count of one byte, which is below 256.
 pub fn write_count(out: &mut Vec<u8>, count: usize) -> Result<(), Memory>
-    ensures { OnOk result (out.new.items ≡ out.old.items ++ count ∷ []) }
+    ensures written { OnOk result (out.new.items ≡ out.old.items ++ count ∷ []) }
+    ensures place { OnOk result (count < 2 ^ 8) }
 {
     match u8::try_from(count) {
         Ok(byte) => write_byte(out, byte),
@@ -67,17 +68,19 @@ pub fn write_count(out: &mut Vec<u8>, count: usize) -> Result<(), Memory>
     }
 }
 
-/// Adds a name behind its length of one byte.
+/// Adds a name of at most 255 bytes behind its length of one byte.
 pub fn write_name(out: &mut Vec<u8>, name: &[u8]) -> Result<(), Memory>
-    ensures { OnOk result (out.new.items ≡ out.old.items ++ name_bytes name.now) }
+    ensures written { OnOk result (out.new.items ≡ out.old.items ++ name_bytes name.now) }
+    ensures place { OnOk result (length name.now < 2 ^ 8) }
 {
     write_count(out, name.len())?;
     write_bytes(out, name)
 }
 
-/// Adds a text or bytes behind their length of two bytes.
+/// Adds a text or bytes, of at most 65,535 bytes, behind their length of two bytes.
 pub fn write_text16(out: &mut Vec<u8>, text: &[u8]) -> Result<(), Memory>
-    ensures { OnOk result (out.new.items ≡ out.old.items ++ text16_bytes text.now) }
+    ensures written { OnOk result (out.new.items ≡ out.old.items ++ text16_bytes text.now) }
+    ensures place { OnOk result (length text.now < 2 ^ 16) }
 {
     match u16::try_from(text.len()) {
         Ok(size) => {

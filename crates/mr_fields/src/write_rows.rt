@@ -2,7 +2,8 @@
 
 ghost use Rattle.std.specs.Prelude.{◌≡◌, ◌++◌, ◌∷◌, [], pos, OnOk};
 ghost use Rattle.mr_spec.specs.RowForm.{number_bytes, value_bytes, values_bytes, given_bytes, flags_of as row_flags, row_bytes};
-ghost use Rattle.mr_fields.specs.Fitting.{signed_bytes};
+ghost use Rattle.std.specs.List.{AllByRecursion};
+ghost use Rattle.mr_fields.specs.Fitting.{signed_bytes, NumberFits, ValueHasPlace, RowHasPlace};
 
 use crate::write::{write_byte, write_bytes, write_count, write_text16, write_u64};
 use byteorder::{BigEndian, ByteOrder};
@@ -26,7 +27,8 @@ fn write_unsigned(out: &mut Vec<u8>, number: u64) -> Result<(), Memory>
 }
 
 fn write_number(out: &mut Vec<u8>, number: i128) -> Result<(), Memory>
-    ensures { OnOk result (out.new.items ≡ out.old.items ++ number_bytes number) }
+    ensures written { OnOk result (out.new.items ≡ out.old.items ++ number_bytes number) }
+    ensures place { OnOk result (NumberFits number) }
 {
     if number < 0 {
         match i64::try_from(number) {
@@ -41,9 +43,11 @@ fn write_number(out: &mut Vec<u8>, number: i128) -> Result<(), Memory>
     }
 }
 
-/// Adds a value. A number that isn't from -2^63 to 2^64 - 1 is answered as want of memory.
+/// Adds a value. A number that isn't from -2^63 to 2^64 - 1, and a text of more than 65,535 bytes,
+/// are answered as want of memory.
 pub fn write_value(out: &mut Vec<u8>, value: &Value) -> Result<(), Memory>
-    ensures { OnOk result (out.new.items ≡ out.old.items ++ value_bytes value.now) }
+    ensures written { OnOk result (out.new.items ≡ out.old.items ++ value_bytes value.now) }
+    ensures place { OnOk result (ValueHasPlace value.now) }
 {
     match value {
         Value::Null => write_byte(out, 0),
@@ -60,7 +64,8 @@ pub fn write_value(out: &mut Vec<u8>, value: &Value) -> Result<(), Memory>
 }
 
 fn write_values(out: &mut Vec<u8>, values: &[Value]) -> Result<(), Memory>
-    ensures { OnOk result (out.new.items ≡ out.old.items ++ values_bytes values.now) }
+    ensures written { OnOk result (out.new.items ≡ out.old.items ++ values_bytes values.now) }
+    ensures place { OnOk result (AllByRecursion ValueHasPlace values.now) }
 {
     'writing: for value in values {
         write_value(out, value)?;
@@ -88,9 +93,10 @@ fn flags_of(row: &Row) -> u8
     }
 }
 
-/// Adds a row.
+/// Adds a row. More than 255 columns, and values as of `write_value`, are answered as want of memory.
 pub fn write_row(out: &mut Vec<u8>, row: &Row) -> Result<(), Memory>
-    ensures { OnOk result (out.new.items ≡ out.old.items ++ row_bytes row.now) }
+    ensures written { OnOk result (out.new.items ≡ out.old.items ++ row_bytes row.now) }
+    ensures place { OnOk result (RowHasPlace row.now) }
 {
     write_byte(out, flags_of(row))?;
     write_given(out, row.hidden)?;

@@ -17,3 +17,4 @@ pub mod Totality
 pub mod Whole
 pub mod CaseBits
 pub mod Unpacked
+pub mod Spaces

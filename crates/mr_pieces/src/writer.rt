@@ -1,7 +1,8 @@
 //! Cutting bytes and texts into pieces.
 
 ghost use Rattle.std.specs.Prelude.{◌≡◌, ◌≤◌, ◌++◌, length, take, drop, map, replicate, OnOk};
-ghost use Rattle.mr_lanes.specs.Kernels.{upper};
+ghost use Rattle.std.specs.List.{prefix_len};
+ghost use Rattle.mr_lanes.specs.Kernels.{upper, is_space};
 ghost use Rattle.mr_pieces.specs.Pieces.{bytes_pieces, text_from, text_pieces, trimmed, mark};
 
 use crate::collation::Collation;
@@ -50,15 +51,42 @@ pub fn mark_of(rest: &[u8]) -> u8
     2
 }
 
-/// Adds the pieces of a text that ends in no space.
+/// How many spaces a text begins with, where it is known of the first `known` bytes: these are not
+/// looked at again.
+fn spaces_in_front(text: &[u8], known: usize) -> usize
+    requires { known ≤ prefix_len is_space text.now }
+    ensures { result ≡ prefix_len is_space text.now }
+{
+    let mut count = known;
+    while count < text.len() && text[count] == b' ' {
+        count += 1;
+    }
+    count
+}
+
+/// As `mark_of`, of what begins with so many spaces: it looks at the byte behind them alone.
+fn mark_behind(rest: &[u8], spaces: usize) -> u8
+    requires { spaces ≡ prefix_len is_space rest.now }
+    ensures { result ≡ mark rest.now }
+{
+    if spaces >= rest.len() {
+        return 2;
+    }
+    if rest[spaces] < b' ' { 1 } else { 3 }
+}
+
+/// Adds the pieces of a text that ends in no space. Each byte is looked at once for the marks,
+/// however many spaces there are.
 fn push_pieces(out: &mut Vec<u8>, text: &[u8]) -> Result<(), AllocError>
     ensures { OnOk result (out.new.items ≡ out.old.items ++ text_from 8 text.now) }
 {
     let mut rest = text;
+    let mut spaces = 0usize;
     while rest.len() > 8 {
         let (piece, after) = rest.split_at(8);
         out.extend_from_slice(piece)?;
-        out.push(mark_of(after))?;
+        spaces = spaces_in_front(after, spaces.saturating_sub(8));
+        out.push(mark_behind(after, spaces))?;
         rest = after;
     }
     let count = rest.len();

@@ -8,7 +8,8 @@ use Rattle.mr_lex.proofs.Reading.{spans_from}
 use Rattle.mr_lex.specs.Reading.{Lexeme, AreSpans, tokens_of}
 use Rattle.mr_types.specs.declared.statement.Statement.{Statement}
 use Rattle.mr_types.specs.declared.statement.Statement.TheVariants as statements
-use Rattle.mr_types.specs.Grammatical.{is_statement, where_given, IsGrammatical}
+use Rattle.mr_types.specs.Grammatical.{is_statement, is_grammatical, where_given, IsGrammatical}
+use Rattle.mr_types.specs.Nesting.{nests_little}
 use Rattle.mr_types.specs.Sizes.{statement_size, if_given}
 use Rattle.mr_spec.specs.Phrases.{Outcome, Phrase, ◌<$>◌, ended}
 use Rattle.mr_spec.specs.Grammar as g
@@ -19,21 +20,21 @@ use Rattle.mr_spec.proofs.FitSelect.{select-fits}
 use Rattle.mr_spec.proofs.FitTables.{create_table-fits}
 use Rattle.mr_spec.proofs.FitSessions as s
 
-made_index-fits : (o : Option Bool) → From is_statement statement_size 0 (g.made_index o)
+made_index-fits : (o : Option Bool) → From is_grammatical statement_size 0 (g.made_index o)
 made_index-fits (Some unique) = bind (s.new_index-fits unique) (λ at a. given (statements.CreateIndex at.table at.key) a (omega arith))
 made_index-fits None = none
 
-create-fits : From is_statement statement_size 0 g.create
+create-fits : From is_grammatical statement_size 0 g.create
 unfolding g.create
 create-fits = eaten _ (wide (omega arith) create_table-fits) (bind s.index_words-fits (λ o u. wide (omega arith) (made_index-fits o)))
 
 abbrev is_some_statement : Option Statement → Bool
-is_some_statement o = where_given is_statement o
+is_some_statement o = where_given is_grammatical o
 
 abbrev some_size : Option Statement → ℕ
 some_size o = if_given statement_size o
 
-some-fits : {m before : ℕ} {p : Phrase Statement} → From is_statement statement_size m p → m ≤ before → From is_some_statement some_size before (Some <$> p)
+some-fits : {m before : ℕ} {p : Phrase Statement} → From is_grammatical statement_size m p → m ≤ before → From is_some_statement some_size before (Some <$> p)
 some-fits f le = pass f le (λ x e. given (Some x) e (omega arith))
 
 row_statement-fits : From is_some_statement some_size 0 g.row_statement
@@ -56,24 +57,24 @@ transaction-fits = eaten _ (some-fits s.begin-fits (omega arith)) (eaten _ (some
     (eaten _ (some-fits s.rollback-fits (omega arith)) (eaten _ (bind name-fits (λ n e. given (Some (statements.Savepoint n)) e (omega arith)))
     (eaten _ (some-fits s.release-fits (omega arith)) (given None refl (omega arith)))))))
 
-session_statement-fits : From is_statement statement_size 0 g.session_statement
+session_statement-fits : From is_grammatical statement_size 0 g.session_statement
 unfolding g.session_statement
 session_statement-fits = eaten _ (wide (omega arith) s.lock-fits) (eaten _ (expected _ _ (given statements.Unlock refl (omega arith)))
     (eaten _ (bind name-fits (λ n e. given (statements.Session n) e (omega arith))) (eaten _ (given statements.Disconnect refl (omega arith)) (expected _ _ (wide (omega arith) s.work-fits)))))
 
-or_else-fits : {before : ℕ} {other : Phrase Statement} (o : Option Statement) → is_some_statement o ≡ true → some_size o ≤ before → From is_statement statement_size 0 other → From is_statement statement_size before (g.or_else o other)
+or_else-fits : {before : ℕ} {other : Phrase Statement} (o : Option Statement) → is_some_statement o ≡ true → some_size o ≤ before → From is_grammatical statement_size 0 other → From is_grammatical statement_size before (g.or_else o other)
 or_else-fits (Some x) e le f = given x e le
 or_else-fits None e le f = wide (omega arith) f
 
-transaction_or_session-fits : From is_statement statement_size 0 g.transaction_or_session
+transaction_or_session-fits : From is_grammatical statement_size 0 g.transaction_or_session
 unfolding g.transaction_or_session
 transaction_or_session-fits = bind transaction-fits (λ o e. or_else-fits o e (omega arith) session_statement-fits)
 
-other_statement-fits : From is_statement statement_size 0 g.other_statement
+other_statement-fits : From is_grammatical statement_size 0 g.other_statement
 unfolding g.other_statement
 other_statement-fits = bind schema_statement-fits (λ o e. or_else-fits o e (omega arith) transaction_or_session-fits)
 
-statement-fits : From is_statement statement_size 0 g.statement
+statement-fits : From is_grammatical statement_size 0 g.statement
 unfolding g.statement
 statement-fits = bind row_statement-fits (λ o e. or_else-fits o e (omega arith) other_statement-fits)
 
@@ -85,7 +86,7 @@ ended-good (t ∷ ts) h = tt
 ended-fits : From always nothing 0 ended
 ended-fits = record { good = ended-good }
 
-whole_statement-fits : From is_statement statement_size 0 g.whole_statement
+whole_statement-fits : From is_grammatical statement_size 0 g.whole_statement
 unfolding g.whole_statement
 whole_statement-fits = bind statement-fits (λ x e. bind ended-fits (λ u t. given x e (omega arith)))
 
@@ -129,9 +130,9 @@ abbrev found_or : Statement → Option Statement → Statement
 found_or x None = x
 found_or x (Some y) = y
 
-in_order : (o : Outcome Statement) (n : ℕ) (s : Statement) → n ≤ g.longest_text → Good is_statement statement_size n o → option_map (λ p. p.0) o ≡ Some s → IsGrammatical s
+in_order : (o : Outcome Statement) (n : ℕ) (s : Statement) → n ≤ g.longest_text → Good is_grammatical statement_size n o → option_map (λ p. p.0) o ≡ Some s → IsGrammatical s
 in_order None n s le h e = absurd (none-some s e)
-in_order (Some p) n s le h e = subst IsGrammatical (ap (found_or s) e) (record { in_order = h.0; not_long = omega (arith, h.1, le) })
+in_order (Some p) n s le h e = subst IsGrammatical (ap (found_or s) e) (record { in_order = second_holds (nests_little p.0) (is_statement p.0) h.0; not_deep = first_holds (nests_little p.0) (is_statement p.0) h.0; not_long = omega (arith, h.1, le) })
 
 spelled_by-grammatical : (text : List ℕ) (found : List Lexeme) (bad : Option ℕ) (s : Statement) → list_all is_byte text ≡ true → length text ≤ g.longest_text → AreSpans text 0 found
     → g.spelled_by found bad ≡ Some s → IsGrammatical s

@@ -1,7 +1,9 @@
 -- INSERT, UPDATE and DELETE fit.
-use Rattle.std.proofs.Common.{◌≡◌, ℕ, zero, suc, ◌+◌, ◌≤◌, List, [], ◌∷◌, ◌++◌, true, false, Bool, length, arith, refl, Option, Some, None}
+use Rattle.std.proofs.Common.{◌≡◌, ℕ, zero, suc, ◌+◌, ◌≤◌, List, [], ◌∷◌, ◌++◌, true, false, Bool, ◌&&◌, length, arith, refl, Option, Some, None}
 use Rattle.std.specs.List.{list_all}
-use Rattle.mr_types.specs.Grammatical.{is_name, is_item, is_insert, is_factor, is_term, is_set_to, is_set, is_statement, some_all, where_given}
+use Rattle.mr_types.specs.Grammatical.{is_name, is_item, is_insert, is_factor, is_term, is_set_to, is_set, is_grammatical, is_condition, some_all, where_given}
+use Rattle.mr_types.specs.Nesting.{is_shallow}
+use Rattle.mr_types.specs.declared.expr.Expr.{Expr}
 use Rattle.mr_types.specs.Sizes.{item_size, insert_size, names_size, factor_size, term_size, set_to_size, set_size, statement_size, if_given, summed}
 use Rattle.mr_types.specs.declared.statement.ItemValue.TheVariants as items
 use Rattle.mr_types.specs.declared.statement.Factor.TheVariants as factors
@@ -10,9 +12,10 @@ use Rattle.mr_types.specs.declared.statement.SetTo.TheVariants as sets
 use Rattle.mr_types.specs.declared.statement.Statement.TheVariants as statements
 use Rattle.mr_spec.specs.Phrases.{Phrase, names_in, go_on}
 use Rattle.mr_spec.specs.RowPhrases.{item_value, column_names, values_word, tuple, insert, factor, product, term, plus_or_minus, sum_from, sum, set_to, set_item, update, delete}
-use Rattle.mr_spec.proofs.Fitting.{From, bind, given, none, eaten, eaten_sign, maybe-fits, expected, expected_sign, listed-fits, separated-fits, sign_mark, in_parentheses-fits, by_sight, last_keyword, both, always, nothing, all-more, some-more, size-more}
+use Rattle.mr_spec.proofs.Fitting.{From, bind, given, none, eaten, eaten_sign, maybe-fits, expected, expected_sign, listed-fits, separated-fits, sign_mark, in_parentheses-fits, by_sight, last_keyword, both, first_holds, second_holds, always, nothing, all-more, some-more, size-more}
 use Rattle.mr_spec.proofs.FitTokens.{name-fits, literal-fits}
 use Rattle.mr_spec.proofs.FitConditions.{condition-fits}
+use Rattle.mr_spec.proofs.FitNesting.{condition-nests}
 
 pub names_in-fits : From (some_all is_name) names_size 0 names_in
 names_in-fits = in_parentheses-fits _ _ (listed-fits _ _ name-fits)
@@ -70,10 +73,13 @@ set_item-fits : From is_set set_size 0 set_item
 unfolding set_item
 set_item-fits = bind name-fits (λ column a. expected_sign _ _ (bind set_to-fits (λ to b. given (record { column = column; to = to }) (both a b) (omega arith))))
 
-pub update-fits : From is_statement statement_size 0 update
-unfolding update
-update-fits = bind name-fits (λ table a. expected _ _ (bind (listed-fits _ _ set_item-fits) (λ set b. bind condition-fits (λ test c. given (statements.Update table set test) (both a (both b c)) (omega arith)))))
+shallow : (test : Option Expr) → (is_shallow test && where_given is_condition test) ≡ true → is_shallow test ≡ true
+shallow test h = first_holds (is_shallow test) (where_given is_condition test) h
 
-pub delete-fits : From is_statement statement_size 0 delete
+pub update-fits : From is_grammatical statement_size 0 update
+unfolding update
+update-fits = bind name-fits (λ table a. expected _ _ (bind (listed-fits _ _ set_item-fits) (λ set b. bind (condition-nests condition-fits) (λ test c. given (statements.Update table set test) (both (shallow test c) (both a (both b (second_holds (is_shallow test) (where_given is_condition test) c)))) (omega arith)))))
+
+pub delete-fits : From is_grammatical statement_size 0 delete
 unfolding delete
-delete-fits = expected _ _ (bind name-fits (λ table a. bind condition-fits (λ test b. given (statements.Delete table test) (both a b) (omega arith))))
+delete-fits = expected _ _ (bind name-fits (λ table a. bind (condition-nests condition-fits) (λ test b. given (statements.Delete table test) (both (shallow test b) (both a (second_holds (is_shallow test) (where_given is_condition test) b))) (omega arith))))

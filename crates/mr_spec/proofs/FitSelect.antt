@@ -1,7 +1,8 @@
 -- SELECT fits.
 use Rattle.std.proofs.Common.{◌≡◌, ℕ, ◌-◌, ◌^◌, List, [], ◌∷◌, true, false, true≢false, Bool, ◌&&◌, ◌||◌, length, arith, refl, sym, Option, Some, None, is_none, if◌then◌else◌, ◌==◌}
 use Rattle.std.specs.List.{list_all}
-use Rattle.mr_types.specs.Grammatical.{is_name, is_aggregate, is_list, is_index_name, is_ordered_well, is_select, is_empty, some_all, where_given}
+use Rattle.mr_types.specs.Grammatical.{is_name, is_aggregate, is_list, is_index_name, is_ordered_well, is_select, is_condition, is_empty, some_all, where_given}
+use Rattle.mr_types.specs.Nesting.{is_shallow}
 use Rattle.mr_types.specs.Sizes.{aggregate_size, columns_size, index_size, select_size, if_given, summed}
 use Rattle.mr_types.specs.declared.expr.Expr.{Expr}
 use Rattle.mr_types.specs.declared.statement.Aggregate.TheVariants as aggregates
@@ -16,6 +17,7 @@ use Rattle.mr_spec.specs.SelectPhrase.{begins_aggregate, aggregate, select_list,
 use Rattle.mr_spec.proofs.Fitting.{From, bind, given, eaten, eaten_sign, expected, checked, listed-fits, keyword_mark, in_parentheses-fits, by_sight, wide, as_well, both, first_holds, second_holds, always, nothing, last_sign}
 use Rattle.mr_spec.proofs.FitTokens.{name-fits, number-fits}
 use Rattle.mr_spec.proofs.FitConditions.{condition-fits}
+use Rattle.mr_spec.proofs.FitNesting.{condition-nests}
 
 aggregate-fits : From is_aggregate aggregate_size 0 aggregate
 unfolding aggregate
@@ -89,7 +91,11 @@ ordered_well (columns.Aggregates xs) table forced test rows count h l e =
     let n = second_holds (is_empty rows) (is_none count.most) e in
     both (first_holds (is_empty rows) (is_none count.most) e) (both n (then_holds (is_none count.most) (count.skip == 0) l n))
 
-pub select-fits : From is_select select_size 0 select
+-- in order, and its condition nests little
+abbrev pub is_select_within : Select → Bool
+is_select_within s = is_shallow s.condition && is_select s
+
+pub select-fits : From is_select_within select_size 0 select
 unfolding select
-select-fits = bind select_list-fits (λ list a. expected _ _ (bind name-fits (λ table b. bind forced_index-fits (λ forced c. bind condition-fits (λ test d. bind order-fits (λ rows f. bind limit-fits (λ count g.
-    checked _ _ (λ e. given (select_of list table forced test rows count) (both a (both b (both c (both d (ordered_well list table forced test rows count f g e))))) (omega arith)))))))))
+select-fits = bind select_list-fits (λ list a. expected _ _ (bind name-fits (λ table b. bind forced_index-fits (λ forced c. bind (condition-nests condition-fits) (λ test d. bind order-fits (λ rows f. bind limit-fits (λ count g.
+    checked _ _ (λ e. given (select_of list table forced test rows count) (both (first_holds (is_shallow test) (where_given is_condition test) d) (both a (both b (both c (both (second_holds (is_shallow test) (where_given is_condition test) d) (ordered_well list table forced test rows count f g e)))))) (omega arith)))))))))

@@ -1,7 +1,7 @@
 -- Indexes, transactions, locks and sessions fit.
 use Rattle.std.proofs.Common.{ℕ, ◌+◌, true, false, Bool, ◌&&◌, length, codes, arith, refl, Option, Some, None, nat_le}
 use Rattle.mr_types.specs.declared.statement.Statement.TheVariants as statements
-use Rattle.mr_types.specs.Grammatical.{is_name, is_key_of_table, is_secondary_text, is_statement}
+use Rattle.mr_types.specs.Grammatical.{is_name, is_key_of_table, is_secondary_text, is_grammatical}
 use Rattle.mr_types.specs.Sizes.{name_size, key_size, key_name_size, statement_size}
 use Rattle.mr_spec.specs.declared.drafts.TableKey.{TableKey}
 use Rattle.mr_spec.specs.Phrases.{sees, behind, begins_name}
@@ -40,16 +40,16 @@ if_exists-fits : From always nothing 0 s.if_exists
 unfolding s.if_exists
 if_exists-fits = eaten _ (expected _ _ (given true refl (omega arith))) (given false refl (omega arith))
 
-pub drop-fits : From is_statement statement_size 0 s.drop
+pub drop-fits : From is_grammatical statement_size 0 s.drop
 unfolding s.drop
 drop-fits = eaten _ (bind if_exists-fits (λ mild u. bind name-fits (λ n a. given (statements.DropTable n mild) a (omega arith)))) (bind index_on-fits (λ k a. given (statements.DropIndex k) a (omega arith)))
 
-begun-fits : (o : Option Bool) → From is_statement statement_size 1 (s.begun o)
+begun-fits : (o : Option Bool) → From is_grammatical statement_size 1 (s.begun o)
 begun-fits (Some unique) = bind (new_index-fits unique) (λ at a. given (statements.BeginIndex at.table at.key) a (omega arith))
 begun-fits None = bind (maybe-fits _) (λ b u. given (statements.Begin false) refl (omega arith))
 
 -- behind BEGIN
-pub begin-fits : From is_statement statement_size 1 s.begin
+pub begin-fits : From is_grammatical statement_size 1 s.begin
 unfolding s.begin
 begin-fits = bind index_words-fits (λ o u. begun-fits o)
 
@@ -57,7 +57,7 @@ with_snapshot-fits : From always nothing 0 s.with_snapshot
 unfolding s.with_snapshot
 with_snapshot-fits = eaten _ (bind (expected _ _ (wide (omega arith) (last_keyword _))) (λ u e. given true refl (omega arith))) (given false refl (omega arith))
 
-pub start-fits : From is_statement statement_size 0 s.start
+pub start-fits : From is_grammatical statement_size 0 s.start
 unfolding s.start
 start-fits = expected _ _ (bind with_snapshot-fits (λ b u. given (statements.Begin b) refl (omega arith)))
 
@@ -66,11 +66,11 @@ unfolding s.savepoint_name
 savepoint_name-fits = skipping (λ ts. sees (codes "savepoint") ts && begins_name (behind ts)) name-fits
 
 -- behind ROLLBACK
-pub rollback-fits : From is_statement statement_size 1 s.rollback
+pub rollback-fits : From is_grammatical statement_size 1 s.rollback
 unfolding s.rollback
 rollback-fits = bind (maybe-fits _) (λ b u. eaten _ (bind savepoint_name-fits (λ n a. given (statements.RollbackTo n) a (omega arith))) (given statements.Rollback refl (omega arith)))
 
-pub release-fits : From is_statement statement_size 0 s.release
+pub release-fits : From is_grammatical statement_size 0 s.release
 unfolding s.release
 release-fits = expected _ _ (bind name-fits (λ n a. given (statements.Release n) a (omega arith)))
 
@@ -82,10 +82,10 @@ locked_table-fits : From is_name name_size 0 s.locked_table
 unfolding s.locked_table
 locked_table-fits = bind name-fits (λ n a. bind lock_mode-fits (λ u t. given n a (omega arith)))
 
-pub lock-fits : From is_statement statement_size 0 s.lock
+pub lock-fits : From is_grammatical statement_size 0 s.lock
 unfolding s.lock
 lock-fits = expected _ _ (bind (listed-fits _ _ locked_table-fits) (λ ns a. given (statements.Lock ns) a (omega arith)))
 
-pub work-fits : From is_statement statement_size 0 s.work
+pub work-fits : From is_grammatical statement_size 0 s.work
 unfolding s.work
 work-fits = bind (number-fits 0 1000000) (λ n e. given (statements.Work n) (second_holds (nat_le 0 n) (nat_le n 1000000) e) (omega arith))

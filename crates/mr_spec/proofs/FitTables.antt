@@ -9,7 +9,7 @@ use Rattle.mr_types.specs.declared.kind.KindText.TheVariants as kinds
 use Rattle.mr_types.specs.declared.text.ColumnText.{ColumnText}
 use Rattle.mr_types.specs.declared.text.KeyText.{KeyText}
 use Rattle.mr_types.specs.declared.statement.Statement.TheVariants as statements
-use Rattle.mr_types.specs.Grammatical.{is_name, is_literal, is_kind_text, is_column_text, is_key_text, is_statement, is_ascii_text, is_empty, some_all, where_given}
+use Rattle.mr_types.specs.Grammatical.{is_name, is_literal, is_kind_text, is_column_text, is_key_text, is_grammatical, is_ascii_text, is_empty, some_all, where_given}
 use Rattle.mr_types.specs.Sizes.{name_size, names_size, literal_size, column_size, key_size, statement_size, if_given, summed}
 use Rattle.mr_spec.specs.declared.drafts.Attributes.{Attributes}
 use Rattle.mr_spec.specs.declared.drafts.ColumnDraft.{ColumnDraft}
@@ -299,7 +299,7 @@ size-or-empty None = refl
 size-or-empty (Some x) = refl
 
 table-held : {before : ℕ} (called : List ℕ) (d : TableDraft) (o : TableOptions) (mild : Bool) → is_name called ≡ true → is_full d ≡ true → is_options o ≡ true
-    → (length called + draft_size d) + options_size o ≤ before → From is_statement statement_size before (pure (statements.CreateTable (t.table_of called d o) mild o.engine))
+    → (length called + draft_size d) + options_size o ≤ before → From is_grammatical statement_size before (pure (statements.CreateTable (t.table_of called d o) mild o.engine))
 table-held called d o mild n f p le =
     let c = t.or_ci o.collation in
     let h = first_holds (is_draft d) (has_items d) f in
@@ -308,6 +308,6 @@ table-held called d o mild n f p le =
     (both (ap (λ b. not (b && is_empty d.keys)) (empty-closed c d.columns) ∙ second_holds (is_draft d) (has_items d) f) (comment-or-empty o.comment (comment-held o p)))))) (engine-held o p))
     (omega (arith, sizes-closed c d.columns, size-or-empty o.comment, le))
 
-pub create_table-fits : From is_statement statement_size 0 t.create_table
+pub create_table-fits : From is_grammatical statement_size 0 t.create_table
 unfolding t.create_table
 create_table-fits = bind if_not_exists-fits (λ mild u. bind name-fits (λ called n. bind (in_parentheses-fits _ _ items-fits) (λ draft f. bind options-fits (λ o p. table-held called draft o mild n f p (omega arith)))))

@@ -2,6 +2,7 @@ pub mod SpelledRows
 pub mod Fitting
 pub mod FitTokens
 pub mod FitConditions
+pub mod FitNesting
 pub mod FitRows
 pub mod FitSelect
 pub mod FitTables

@@ -1,5 +1,5 @@
 -- The values of fields.
-use Rattle.std.specs.Prelude.{◌≡◌, ◌≤◌, ℕ, List, [], take, length}
+use Rattle.std.specs.Prelude.{◌≡◌, ◌≤◌, ℕ, Bool, true, false, List, [], take, length}
 use Rattle.mr_lanes.specs.Kernels.{upper}
 use Rattle.mr_pieces.specs.declared.collation.Collation.{Collation}
 use Rattle.mr_pieces.specs.declared.collation.Collation.TheVariants.{Bin, Ci}
@@ -27,6 +27,22 @@ field_value kind fields.Null = Null
 field_value kind (fields.Number z) = Number z
 field_value kind (fields.Slice slice) = value_of_bytes kind slice.now
 field_value kind (fields.Pieces pieces) = value_of_bytes kind pieces
+
+-- ---- values that stand in fields
+
+-- the bytes of a text or of bytes
+abbrev pub bytes_in : Value → List ℕ
+bytes_in Null = []
+bytes_in (Number n) = []
+bytes_in (Text text) = text
+bytes_in (Bytes bytes) = bytes
+
+-- a column of the kind has such values: texts where it is one of texts, bytes elsewhere
+abbrev pub is_held_by : Kind → Value → Bool
+is_held_by (VarChar n collation) (Bytes bytes) = false
+is_held_by (VarChar n collation) _ = true
+is_held_by _ (Text text) = false
+is_held_by _ _ = true
 
 -- ---- bytes as they are compared
 

@@ -31,6 +31,7 @@ use Rattle.mr_types.specs.declared.statement.KeyName.{KeyName}
 use Rattle.mr_types.specs.declared.statement.Statement.{Statement}
 use Rattle.mr_types.specs.declared.statement.Statement.TheVariants as statements
 use Rattle.mr_types.specs.Sizes.{statement_size}
+use Rattle.mr_types.specs.Nesting.{nests_little}
 
 -- ---- lists and options
 
@@ -185,7 +186,12 @@ is_statement statements.Unlock = true
 is_statement statements.Disconnect = true
 is_statement (statements.Work units) = nat_le units 1000000
 
+-- in order, and its condition nests 64 NOTs and parentheses at most
+abbrev pub is_grammatical : Statement → Bool
+is_grammatical statement = nests_little statement && is_statement statement
+
 -- a text has at most 1,048,576 bytes
 pub record IsGrammatical (statement : Statement) : Type 0 where
   pub in_order : is_statement statement ≡ true
+  pub not_deep : nests_little statement ≡ true
   pub not_long : statement_size statement ≤ 1048576

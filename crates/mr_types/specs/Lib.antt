@@ -6,5 +6,6 @@ pub mod Fields
 pub mod FieldValues
 pub mod Promises
 pub mod Sizes
+pub mod Nesting
 pub mod Grammatical
 pub mod Rows

@@ -3,6 +3,7 @@
 ghost use Rattle.std.specs.Prelude.{◌≡◌, length, slice_index_or};
 ghost use Rattle.mr_pieces.specs.Order.{text_cmp, bytes_cmp};
 ghost use Rattle.mr_types.specs.Order.{value_cmp};
+ghost use Rattle.mr_types.specs.Values.{same_bytes, is_equal};
 ghost use Rattle.mr_types.specs.FieldValues.{bytes_of, field_value, value_of_bytes, folded_byte, Common};
 
 use crate::field::FieldRef;
@@ -108,24 +109,60 @@ fn compare_by_kind(left: &FieldRef<'_>, right: &FieldRef<'_>, kind: Kind) -> Ord
 }
 
 /// The order of two fields of a column of this kind: NULL first, numbers by size, texts after
-/// folding and padding with spaces, bytes as in a dictionary.
-pub fn compare(left: FieldRef<'_>, right: FieldRef<'_>, kind: Kind) -> Ordering
-    ensures { result ≡ value_cmp kind (field_value kind left.entry) (field_value kind right.entry) }
+/// folding and padding with spaces, bytes as in a dictionary. Both are lent, so that one field is
+/// compared with many.
+pub fn compare_fields(left: &FieldRef<'_>, right: &FieldRef<'_>, kind: Kind) -> Ordering
+    ensures { result ≡ value_cmp kind (field_value kind left.now) (field_value kind right.now) }
 {
-    match &left {
-        FieldRef::Null => match &right {
+    match left {
+        FieldRef::Null => match right {
             FieldRef::Null => Ordering::Equal,
             FieldRef::Number(_) | FieldRef::Slice(_) | FieldRef::Pieces(_) => Ordering::Less,
         },
-        FieldRef::Number(a) => match &right {
+        FieldRef::Number(a) => match right {
             FieldRef::Null => Ordering::Greater,
             FieldRef::Number(b) => a.cmp(b),
             FieldRef::Slice(_) | FieldRef::Pieces(_) => Ordering::Less,
         },
-        _ => match &right {
+        _ => match right {
             FieldRef::Null => Ordering::Greater,
             FieldRef::Number(_) => Ordering::Greater,
-            _ => compare_by_kind(&left, &right, kind),
+            _ => compare_by_kind(left, right, kind),
+        },
+    }
+}
+
+/// As `compare_fields`, of fields that are used up.
+pub fn compare(left: FieldRef<'_>, right: FieldRef<'_>, kind: Kind) -> Ordering
+    ensures { result ≡ value_cmp kind (field_value kind left.entry) (field_value kind right.entry) }
+{
+    compare_fields(&left, &right, kind)
+}
+
+/// Whether two texts or lists of bytes are the same, byte for byte.
+#[tactic(auto, using(crate::proofs::Alike::same_order))]
+fn are_same_bytes(left: &FieldRef<'_>, right: &FieldRef<'_>) -> bool
+    ensures { result ≡ same_bytes (bytes_of left.now) (bytes_of right.now) }
+{
+    compare_bytes(left, right).is_eq()
+}
+
+/// Whether two fields of a column of this kind hold the same value, byte for byte: letter case and
+/// spaces at the end of a text count.
+#[tactic(auto, using(crate::proofs::Alike::alike_of_bytes))]
+pub fn is_equal_field(left: &FieldRef<'_>, right: &FieldRef<'_>, kind: Kind) -> bool
+    ensures { result ≡ is_equal (field_value kind left.now) (field_value kind right.now) }
+{
+    match left {
+        FieldRef::Null => matches!(right, FieldRef::Null),
+        FieldRef::Number(a) => match right {
+            FieldRef::Number(b) => !(*a < *b || *b < *a),
+            _ => false,
+        },
+        _ => match right {
+            FieldRef::Null => false,
+            FieldRef::Number(_) => false,
+            _ => are_same_bytes(left, right),
         },
     }
 }

@@ -10,6 +10,7 @@ mod definition;
 mod expiry;
 mod expr;
 mod field;
+mod holding;
 mod kind;
 mod laws;
 mod refused;
@@ -19,7 +20,7 @@ mod text;
 mod value;
 
 pub use assignment::assign;
-pub use comparison::compare;
+pub use comparison::{compare, compare_fields, is_equal_field};
 pub use conversion::convert;
 pub use copies::{copy_columns, copy_keys, copy_values};
 pub use definition::{ColumnDef, ColumnList, IndexDef, IndexList, NameList, TableDef, Ttl};

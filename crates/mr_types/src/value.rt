@@ -1,6 +1,7 @@
 //! Values.
 
 ghost use Rattle.std.specs.Prelude.{◌≡◌, IfOk};
+ghost use Rattle.mr_types.specs.Values.{is_equal};
 
 use mr_base::{Blob, Memory};
 use sqlite_items::Items;
@@ -32,6 +33,19 @@ impl Value {
             Value::Number(number) => Ok(Value::Number(*number)),
             Value::Text(text) => Ok(Value::Text(text.copy(alloc)?)),
             Value::Bytes(bytes) => Ok(Value::Bytes(bytes.copy(alloc)?)),
+        }
+    }
+
+    /// Whether the two are the same, byte for byte.
+    pub fn is_equal(&self, other: &Value) -> bool
+        ensures { result ≡ is_equal self.now other.now }
+    {
+        match (self, other) {
+            (Value::Null, Value::Null) => true,
+            (Value::Number(m), Value::Number(n)) => !(m < n || n < m),
+            (Value::Text(s), Value::Text(t)) => s.is_same(t),
+            (Value::Bytes(s), Value::Bytes(t)) => s.is_same(t),
+            _ => false,
         }
     }
 }
