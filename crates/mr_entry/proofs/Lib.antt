@@ -1,3 +1,4 @@
 pub mod Copying
 pub mod EntryTrip
 pub mod EntryTakes
+pub mod HeldEntries

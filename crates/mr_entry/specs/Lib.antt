@@ -1,3 +1,4 @@
 pub mod Entry
 pub mod Answers
 pub mod Promises
+pub mod Held

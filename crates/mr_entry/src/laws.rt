@@ -1,10 +1,11 @@
 //! What entries are for: laws that callers cite.
 
-ghost use Rattle.std.specs.Prelude.{◌<◌, ◌^◌, ℕ, List, slice_index_or};
+ghost use Rattle.std.specs.Prelude.{◌<◌, ◌^◌, ℕ, suc, List, slice_index_or};
 ghost use Rattle.mr_types.specs.declared.definition.TableDef.{TableDef};
 ghost use Rattle.mr_types.specs.declared.row.Row.{Row};
 ghost use Rattle.mr_types.specs.Rows.{IsRowOf};
 ghost use Rattle.mr_rowval.specs.Promises.{HasKinds};
+ghost use Rattle.mr_entry.specs.Held.{HoldsRow};
 ghost use Rattle.mr_entry.specs.Promises.{IsCovering, HasColumns, EntryComesBack, OnlyEntriesAreRead};
 
 /// The entry of a row, in an index that covers all columns, is read again as that row.
@@ -16,4 +17,10 @@ pub fn entries_come_back()
 /// those of the primary key are NOT NULL.
 pub fn only_entries_are_read()
     ensures { (def : TableDef) (index : ℕ) → HasColumns def index → IsCovering def index → OnlyEntriesAreRead def index }
+{}
+
+/// The entry of a row in a secondary key is read as one, and holds the hidden number, the stamp,
+/// and each column of its key byte for byte.
+pub fn entries_are_held()
+    ensures { (def : TableDef) (numbers : List ℕ) (row : Row) (i : ℕ) → slice_index_or numbers (suc i) 0 < 2 ^ 32 → HasKinds def.columns → IsRowOf def row → HoldsRow def numbers row (suc i) }
 {}

@@ -7,11 +7,13 @@
 #![tactic(auto)]
 
 mod entries;
+mod entry_ref;
 mod laws;
 mod places;
 mod rows;
 
 pub use entries::entries_of;
-pub use laws::{entries_come_back, only_entries_are_read};
-pub use places::covers;
+pub use entry_ref::EntryRef;
+pub use laws::{entries_are_held, entries_come_back, only_entries_are_read};
+pub use places::{covers, places_of};
 pub use rows::row_of_entry;

@@ -4,6 +4,7 @@ ghost use Rattle.std.specs.Prelude.{◌≡◌, ◌<◌, ◌++◌, ℕ, true, fal
 ghost use Rattle.std.specs.Option.{option_copied};
 ghost use Rattle.mr_entry.specs.Entry.{columns_of, own_places, not_among, entry_places, is_reached, IsNeeded};
 
+use mr_base::{Blob, Memory};
 use mr_rowval::is_in;
 use mr_types::{IndexDef, TableDef};
 use sqlite_items::at;
@@ -49,6 +50,15 @@ pub fn entry_places(alloc: Global, def: &TableDef, index: usize) -> Result<Vec<u
         return Ok(Vec::from_slice(alloc, primary)?);
     }
     with_primary(alloc, own_places(def, index), primary)
+}
+
+/// The columns of an index's entries in the order of the key, to be computed once for a table and
+/// an index: those of the index and, behind those of a secondary key, the other ones of the primary
+/// key.
+pub fn places_of(alloc: Global, def: &TableDef, index: usize) -> Result<Blob, Memory>
+    ensures { IfOk result (λ places. places ≡ entry_places def.now index) }
+{
+    Ok(Blob::from_vec(entry_places(alloc, def, index)?))
 }
 
 /// Whether the column is in the key, or in the primary key.

@@ -83,7 +83,7 @@ fn primary_row(alloc: Global, def: &TableDef, key: &[u8], value: &[u8]) -> Resul
 }
 
 /// The stamp, and the unpack data behind it.
-fn forms_at<'a>(
+pub(crate) fn forms_at<'a>(
     wanted: bool,
     columns: &[ColumnDef],
     places: &[u8],

@@ -9,3 +9,6 @@ pub mod Assigned
 pub mod ColumnTrip
 pub mod ColumnTakes
 pub mod KeyTrip
+pub mod Behind
+pub mod GivenParts
+pub mod GivenSteps

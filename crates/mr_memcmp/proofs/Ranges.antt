@@ -32,19 +32,19 @@ first_less Greater b h e = absurd cc
 abbrev GoesOn : List ℕ → List ℕ → Type 0
 GoesOn key bytes = (rest : List ℕ) × (key ≡ bytes ++ rest)
 
-against : (x y tail : List ℕ) (decided : Ordering) → Leads x y decided → bytes_cmp (x ++ tail) y ≡ ordering_then decided (bytes_cmp tail [])
+pub against : (x y tail : List ℕ) (decided : Ordering) → Leads x y decided → bytes_cmp (x ++ tail) y ≡ ordering_then decided (bytes_cmp tail [])
 against x y tail decided lead = sym (ap (bytes_cmp (x ++ tail)) (append-nil y)) ∙ lead tail []
 
-is_at_or_above : (x y tail : List ℕ) (decided : Ordering) → Leads x y decided → (decided ≢ Less) ↔ (bytes_cmp (x ++ tail) y ≢ Less)
+pub is_at_or_above : (x y tail : List ℕ) (decided : Ordering) → Leads x y decided → (decided ≢ Less) ↔ (bytes_cmp (x ++ tail) y ≢ Less)
 is_at_or_above x y tail decided lead =
     let whole = against x y tail decided lead in
     (λ h e. h (first_less decided (bytes_cmp tail []) (never_less tail) (sym whole ∙ e)), λ h e. h (whole ∙ ap (λ (o : Ordering). ordering_then o (bytes_cmp tail [])) e))
 
-is_same : (x y tail : List ℕ) (decided : Ordering) → Leads x y decided → (decided ≡ Equal) ↔ GoesOn (x ++ tail) y
+pub is_same : (x y tail : List ℕ) (decided : Ordering) → Leads x y decided → (decided ≡ Equal) ↔ GoesOn (x ++ tail) y
 is_same x y tail decided lead =
     (λ e. (tail, ap (λ (l : List ℕ). l ++ tail) ((lead_equal x y decided lead).1 e)), λ on. first_equal decided (bytes_cmp tail on.0) (sym (lead tail on.0) ∙ ap (λ (l : List ℕ). bytes_cmp l (y ++ on.0)) on.1 ∙ bytes_equal (y ++ on.0)))
 
-is_above : (x y tail : List ℕ) (decided : Ordering) → Leads x y decided → (decided ≡ Greater) ↔ ((rest : List ℕ) → bytes_cmp (x ++ tail) (y ++ rest) ≡ Greater)
+pub is_above : (x y tail : List ℕ) (decided : Ordering) → Leads x y decided → (decided ≡ Greater) ↔ ((rest : List ℕ) → bytes_cmp (x ++ tail) (y ++ rest) ≡ Greater)
 is_above x y tail decided lead =
     (λ e rest. lead tail rest ∙ ap (λ (o : Ordering). ordering_then o (bytes_cmp tail rest)) e, λ h. sym (then_equal decided) ∙ ap (ordering_then decided) (sym (bytes_equal tail)) ∙ sym (lead tail tail) ∙ h tail)
 

@@ -5,3 +5,5 @@ pub mod Reading
 pub mod Kept
 pub mod KeyState
 pub mod ComeBack
+pub mod Above
+pub mod Parts

@@ -1,14 +1,14 @@
 //! A reader of the columns of a key, one behind the other.
 
 ghost use Rattle.std.specs.Prelude.{◌≡◌, length};
-ghost use Rattle.std.specs.Int.{w32};
+ghost use Rattle.std.specs.Int.{w32, w64};
 ghost use Rattle.mr_memcmp.specs.Reading.{number_read, field_read};
 ghost use Rattle.mr_memcmp.specs.KeyState.{GivesIndex, GivesField};
 ghost use Rattle.mr_memcmp.specs.Kept.{TakesColumn, LeavesKey};
 
 use crate::full::full_at;
 use crate::kept::kept_at;
-use crate::number::u32_at;
+use crate::number::{u32_at, u64_at};
 use mr_base::Malformed;
 use mr_pieces::BytesLeft;
 use mr_types::{ColumnType, FieldRef};
@@ -91,6 +91,28 @@ impl<'a> KeyReader<'a> {
             }
             Err(left) => Err(Malformed((self.total - left) as u64)),
         }
+    }
+
+    /// The hidden number, eight bytes, which stands behind the columns where the table has no
+    /// primary key. After an error the reader stays.
+    pub fn hidden(&mut self) -> Result<u64, Malformed>
+        ensures { GivesIndex self.old self.new result (number_read w64 self.old.left) }
+    {
+        let key: &'a [u8] = self.left;
+        match u64_at(key) {
+            Ok((number, rest)) => {
+                self.left = rest;
+                Ok(number)
+            }
+            Err(left) => Err(Malformed((self.total - left) as u64)),
+        }
+    }
+
+    /// What is left of the key: nothing behind a whole one.
+    pub fn key_rest(&self) -> &'a [u8]
+        ensures { result.now ≡ self.now.left }
+    {
+        self.left
     }
 
     /// What the columns so far haven't used of the unpack data.

@@ -9,6 +9,7 @@
 //! Behind them stands the hidden number, 8 bytes, where the table has no primary key.
 #![tactic(auto)]
 
+mod above;
 mod column;
 mod encode;
 mod full;
@@ -17,7 +18,9 @@ mod key_reader;
 mod laws;
 mod number;
 mod order;
+mod parts;
 
+pub use above::{above_prefix, least_above_prefixes, prefixes_are_ranges};
 pub use encode::{encode_columns, encode_key};
 pub use full::full_at;
 pub use kept::{Kept, kept_at};
@@ -28,3 +31,4 @@ pub use laws::{
 };
 pub use number::{u32_at, u64_at};
 pub use order::compare_keys;
+pub use parts::{encode_parts, fits, parts_in_range};

@@ -29,7 +29,7 @@ FlagOf nullable bits is_null next = (n : ℕ) (flags : List Bool) (after : List 
 abbrev value_ok : Value → List ℕ → ReadValue
 value_ok value rest = Ok (value, rest)
 
-abbrev fields_ok : List Value → List ℕ → ReadFields
+abbrev pub fields_ok : List Value → List ℕ → ReadFields
 fields_ok values rest = Ok (values, rest)
 
 same_rest : (a b : List ℕ) → let x : Result (List ℕ) ℕ = Ok a in let y : Result (List ℕ) ℕ = Ok b in x ≡ y → a ≡ b
@@ -109,11 +109,11 @@ value_behind : (front : List Value) (w : Value) (more : List Value) → value_at
 value_behind [] w more = refl
 value_behind (v ∷ front) w more = value_behind front w more
 
--- the value that reading gives the column
-pub value_there : (columns : List ColumnDef) (places : List ℕ) (at : ℕ) (flags : List Bool) (bytes : List ℕ) (held : Held) (after : List ℕ) (bits next : Bits) (rest : List ℕ) (column : ColumnDef) (is_null : Bool) (fields : List Value) (end : List ℕ) → at < length columns → column ≡ get_or columns at column
-    → UpTo columns places at flags bytes held after bits rest → FlagOf column.ty.nullable bits is_null next → fields_read places held 0 columns flags bytes ≡ fields_ok fields end → is_in places at ≡ false
-    → (x : Value × List ℕ) × (field_read false is_null (found held at) column.ty.kind rest ≡ Ok x) × (x.0 ≡ value_at fields at)
-value_there columns places at flags bytes held after bits next rest column is_null fields end within is up flag read out =
+-- what reading does at the column
+pub value_read : (columns : List ColumnDef) (places : List ℕ) (at : ℕ) (flags : List Bool) (bytes : List ℕ) (held : Held) (after : List ℕ) (bits next : Bits) (rest : List ℕ) (column : ColumnDef) (is_null : Bool) (fields : List Value) (end : List ℕ) → at < length columns → column ≡ get_or columns at column
+    → UpTo columns places at flags bytes held after bits rest → FlagOf column.ty.nullable bits is_null next → fields_read places held 0 columns flags bytes ≡ fields_ok fields end
+    → (x : Value × List ℕ) × (field_read (is_in places at) is_null (found held at) column.ty.kind rest ≡ Ok x) × (x.0 ≡ value_at fields at)
+value_read columns places at flags bytes held after bits next rest column is_null fields end within is up flag read =
     let front = up.0 in
     let later = up.1 in
     let its = its_flag columns at bits next later after column is_null within is flag up.3 in
@@ -123,9 +123,17 @@ value_there columns places at flags bytes held after bits next rest column is_nu
     let first = value_parts x.0 (fields_read places held (at + 1) (drop (at + 1) columns) (later_flags column.ty.nullable later) x.1) parts.0 end here.2 in
     let same : front ++ x.0 ∷ first.0 ≡ fields = ap (λ (l : List Value). front ++ l) first.2 ∙ parts.2 in (
       x,
-      ap (λ (b : Bool). field_read b is_null (found held at) column.ty.kind rest) (sym out) ∙ ap (λ (b : Bool). field_read (is_in places at) b (found held at) column.ty.kind rest) its.0 ∙ here.1,
+      ap (λ (b : Bool). field_read (is_in places at) b (found held at) column.ty.kind rest) its.0 ∙ here.1,
       sym (value_behind front x.0 first.0) ∙ ap (λ (l : List Value). value_at l (length front)) same ∙ ap (value_at fields) up.2,
     )
+
+-- the value that reading gives the column
+pub value_there : (columns : List ColumnDef) (places : List ℕ) (at : ℕ) (flags : List Bool) (bytes : List ℕ) (held : Held) (after : List ℕ) (bits next : Bits) (rest : List ℕ) (column : ColumnDef) (is_null : Bool) (fields : List Value) (end : List ℕ) → at < length columns → column ≡ get_or columns at column
+    → UpTo columns places at flags bytes held after bits rest → FlagOf column.ty.nullable bits is_null next → fields_read places held 0 columns flags bytes ≡ fields_ok fields end → is_in places at ≡ false
+    → (x : Value × List ℕ) × (field_read false is_null (found held at) column.ty.kind rest ≡ Ok x) × (x.0 ≡ value_at fields at)
+value_there columns places at flags bytes held after bits next rest column is_null fields end within is up flag read out =
+    let there = value_read columns places at flags bytes held after bits next rest column is_null fields end within is up flag read in
+    (there.0, ap (λ (b : Bool). field_read b is_null (found held at) column.ty.kind rest) (sym out) ∙ there.1, there.2)
 
 pub its_kind : (columns : List ColumnDef) (at : ℕ) (column : ColumnDef) → at < length columns → column ≡ get_or columns at column → kind_at columns at ≡ column.ty.kind
 its_kind columns at column within is = ap kind_of_column (slice_get-get_or columns at column within) ∙ ap (λ (c : ColumnDef). c.ty.kind) (sym is)

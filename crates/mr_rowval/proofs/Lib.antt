@@ -10,3 +10,6 @@ pub mod PlainTakes
 pub mod PartsTake
 pub mod RowTakes
 pub mod EntryTakes
+pub mod PartsLie
+pub mod SpotWalk
+pub mod PartsAre

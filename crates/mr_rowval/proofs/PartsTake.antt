@@ -24,19 +24,19 @@ odd_split n =
       | inr even ↦ rw (ne_eqb (n % 2) 1 even) (omega arith)
     ]
 
-abbrev some_flags : List Bool → List ℕ → Flags
+abbrev pub some_flags : List Bool → List ℕ → Flags
 some_flags flags rest = Some (flags, rest)
 
 same_flags : (x y : List Bool × List ℕ) → let a : Flags = Some x in let b : Flags = Some y in a ≡ b → x ≡ y
 same_flags x y e = cc
 
-after_parts : (flag : Bool) (f : Flags) (flags : List Bool) (more : List ℕ) → after_flag flag f ≡ some_flags flags more → (later : List Bool) × (f ≡ some_flags later more) × (flag ∷ later ≡ flags)
+pub after_parts : (flag : Bool) (f : Flags) (flags : List Bool) (more : List ℕ) → after_flag flag f ≡ some_flags flags more → (later : List Bool) × (f ≡ some_flags later more) × (flag ∷ later ≡ flags)
 after_parts flag (Some x) flags more e =
     let same = same_flags (flag ∷ x.0, x.1) (flags, more) e in
     (x.0, ap (λ (y : List Bool × List ℕ). some_flags x.0 y.1) same, ap (λ (y : List Bool × List ℕ). y.0) same)
 after_parts flag None flags more e = absurd cc
 
-end_parts : (test : Bool) (rest more : List ℕ) (flags : List Bool) → cond test (some_flags [] rest) None ≡ some_flags flags more → (test ≡ true) × ([] ≡ flags) × (rest ≡ more)
+pub end_parts : (test : Bool) (rest more : List ℕ) (flags : List Bool) → cond test (some_flags [] rest) None ≡ some_flags flags more → (test ≡ true) × ([] ≡ flags) × (rest ≡ more)
 end_parts true rest more flags e =
     let same = same_flags ([], rest) (flags, more) e in
     (refl, ap (λ (y : List Bool × List ℕ). y.0) same, ap (λ (y : List Bool × List ℕ). y.1) same)
@@ -128,7 +128,7 @@ behind_parts : (r : ReadValue) (rest : List ℕ) → behind r ≡ Ok rest → (k
 behind_parts (Ok x) rest e = (x.0, ap (value_ok x.0) (same_rest x.1 rest e))
 behind_parts (Err left) rest e = absurd cc
 
-held_parts : (p : ℕ) (key : List ℕ) (r : ReadValue) (x : Held × List ℕ × List ℕ) → held_at p key r ≡ Ok x → (v : Value) × (r ≡ value_ok v x.2) × ((p, v) ∷ [] ≡ x.0) × (key ≡ x.1)
+pub held_parts : (p : ℕ) (key : List ℕ) (r : ReadValue) (x : Held × List ℕ × List ℕ) → held_at p key r ≡ Ok x → (v : Value) × (r ≡ value_ok v x.2) × ((p, v) ∷ [] ≡ x.0) × (key ≡ x.1)
 held_parts p key (Ok y) x e =
     let same = same_part ((p, y.0) ∷ [], key, y.1) x e in
     (y.0, ap (λ (z : Held × List ℕ × List ℕ). value_ok y.0 z.2) same, ap (λ (z : Held × List ℕ × List ℕ). z.0) same, ap (λ (z : Held × List ℕ × List ℕ). z.1) same)

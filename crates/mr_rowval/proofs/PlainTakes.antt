@@ -25,7 +25,7 @@ use Rattle.mr_rowval.specs.Plain.{complement, plain_number, text16, plain_bytes,
 abbrev pub value_ok : Value → List ℕ → ReadValue
 value_ok value rest = Ok (value, rest)
 
-abbrev number_ok : ℕ → List ℕ → ReadNumber
+abbrev pub number_ok : ℕ → List ℕ → ReadNumber
 number_ok n rest = Ok (n, rest)
 
 same_value : (x y : Value × List ℕ) → let a : ReadValue = Ok x in let b : ReadValue = Ok y in a ≡ b → x ≡ y
@@ -52,7 +52,7 @@ signed_64 n small =
       | inr high ↦ rw (le-ltb n (2 ^ 63) high) (omega arith, omega arith)
     ]
 
-number_parts : (view : ℕ → ℤ) (r : ReadNumber) (v : Value) (rest : List ℕ) → as_number view r ≡ value_ok v rest → (n : ℕ) × (r ≡ Ok (n, rest)) × (Number (view n) ≡ v)
+pub number_parts : (view : ℕ → ℤ) (r : ReadNumber) (v : Value) (rest : List ℕ) → as_number view r ≡ value_ok v rest → (n : ℕ) × (r ≡ Ok (n, rest)) × (Number (view n) ≡ v)
 number_parts view (Ok x) v rest e =
     let parts = ok_parts (Number (view x.0)) v x.1 rest e in
     (x.0, ap (λ (l : List ℕ). number_ok x.0 l) parts.1, parts.0)
@@ -70,7 +70,7 @@ number_done kind z v bytes rest is written fits = subst (λ (q : Value). PlainTa
 
 -- ---- texts and bytes
 
-tried : (test : Bool) (left : ℕ) (a v : Value) (b rest : List ℕ) → cond test (value_ok a b) (Err left) ≡ value_ok v rest → (test ≡ true) × (a ≡ v) × (b ≡ rest)
+pub tried : (test : Bool) (left : ℕ) (a v : Value) (b rest : List ℕ) → cond test (value_ok a b) (Err left) ≡ value_ok v rest → (test ≡ true) × (a ≡ v) × (b ≡ rest)
 tried true left a v b rest e = let parts = ok_parts a v b rest e in (refl, parts.0, parts.1)
 tried false left a v b rest e = absurd cc
 

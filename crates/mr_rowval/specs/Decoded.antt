@@ -31,6 +31,8 @@ pub record IsDecoded (columns : List ColumnDef) (places key nulls unpack plain :
 pub record Decoded : Type 0 where
   pub def : TableDef
   pub row : Row
+  pub key : List ℕ
+  pub value : List ℕ
 
 -- ---- what functions answer, against the reading
 
@@ -38,11 +40,6 @@ pub record Decoded : Type 0 where
 abbrev pub TakesParts : List ColumnDef → List ℕ → List ℕ → List ℕ → Result (Bor (List ℕ) × Bor (List ℕ)) ℕ → Type 0
 TakesParts columns places key nulls (Ok x) = IsDecoded columns places key nulls x.0.now x.1.now
 TakesParts columns places key nulls (Err left) = (fields_from columns places key nulls ≡ Err left) × (left ≤ length nulls)
-
--- all but the test of the stamp
-abbrev pub TakesRow : TableDef → List ℕ → Result Decoded ℕ → Result Row ℕ → Type 0
-TakesRow def value (Ok x) read = (read ≡ Ok x.row) × (x.def ≡ def)
-TakesRow def value (Err left) read = (read ≡ Err left) × (left ≤ length value)
 
 -- the row of an entry, or the first offence among so many bytes
 abbrev pub DecodesRow : TableDef → ℕ → Result Decoded Malformed → Result Row ℕ → Type 0

@@ -6,4 +6,5 @@ pub mod KeyParts
 pub mod RowValue
 pub mod Walking
 pub mod Decoded
+pub mod Parts
 pub mod Promises

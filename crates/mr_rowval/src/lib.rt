@@ -17,10 +17,14 @@ mod key;
 mod laws;
 mod nulls;
 mod packing;
+mod parts;
 mod plain;
 mod row_ref;
+mod walked;
 
 pub use encode::{encode_row, push_forms, push_stamp};
 pub use key::{held_field, is_in, key_at, unpack_at, wanted_at};
 pub use laws::{only_rows_are_read, rows_come_back};
-pub use row_ref::{RowRef, is_hidden};
+pub use parts::RowParts;
+pub use row_ref::RowRef;
+pub use walked::is_hidden;

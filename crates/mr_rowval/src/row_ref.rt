@@ -1,134 +1,95 @@
 //! A row that is read where it lies, in its key and in its value.
 
-ghost use Rattle.std.specs.Prelude.{◌≡◌, ◌+◌, length, pos};
-ghost use Rattle.mr_types.specs.declared.kind.Kind.{Kind};
-ghost use Rattle.mr_types.specs.declared.value.Value.TheVariants.{Number as ANumber};
+ghost use Rattle.std.specs.Prelude.{◌≡◌, ◌+◌, ◌≤◌, drop, length, IfOk, Ok};
 ghost use Rattle.mr_types.specs.FieldValues.{field_value};
-ghost use Rattle.mr_types.specs.Values.{is_equal};
-ghost use Rattle.mr_types.specs.Rows.{is_hidden};
-ghost use Rattle.mr_rowval.specs.RowValue.{value_read, row_read, is_stamp_of};
+ghost use Rattle.mr_rowval.specs.RowValue.{row_read};
 ghost use Rattle.mr_rowval.specs.Walking.{kind_at, value_at};
-ghost use Rattle.mr_rowval.specs.Decoded.{IsDecoded, fields_in, TakesParts, TakesRow, DecodesRow};
+ghost use Rattle.mr_rowval.specs.Decoded.{DecodesRow};
+ghost use Rattle.mr_rowval.specs.Parts.{ArePartsOf, WalksEntry, row_in};
+ghost use Rattle.mr_types.specs.declared.row.Row.{Row};
 
-use crate::fields::{plain_field, read_to};
-use crate::key::{held_field, is_in, key_at, unpack_at, wanted_at};
-use crate::nulls::{nullable_count, nulls_at};
+use crate::key::{held_field, is_in};
+use crate::parts::{RowParts, plain_spots, spot_field};
+use crate::walked::Walked;
 use mr_base::Malformed;
-use mr_pieces::BytesLeft;
-use mr_types::{ColumnDef, FieldRef, TableDef};
+use mr_types::{FieldRef, TableDef};
 use std::marker::Model;
 
-/// Goes over a value from the null bits on: where the unpack data begin, and the columns behind
-/// them.
-fn parts_at<'a>(
-    columns: &[ColumnDef],
-    places: &[u8],
-    key: &'a [u8],
-    nulls: &'a [u8],
-) -> Result<(&'a [u8], &'a [u8]), BytesLeft>
-    ensures { TakesParts columns.now places.now key.now nulls.now result }
-{
-    let unpack = nulls_at(nullable_count(columns), nulls)?;
-    let plain = unpack_at(columns, places, key, unpack)?;
-    match read_to(columns, places, columns.len(), nulls, plain) {
-        Err(left) => Err(left),
-        Ok((_, rest)) => {
-            if rest.len() > 0 {
-                return Err(rest.len());
-            }
-            Ok((unpack, plain))
-        }
-    }
-}
-
-/// The column at a place of a row that was read before.
-fn field_of<'a>(
-    columns: &[ColumnDef],
-    places: &[u8],
-    key: &'a [u8],
-    nulls: &'a [u8],
-    unpack: &'a [u8],
-    plain: &'a [u8],
-    place: usize,
-) -> FieldRef<'a>
-    requires { IsDecoded columns.now places.now key.now nulls.now unpack.now plain.now }
-    ensures { field_value (kind_at columns.now place) result ≡ value_at (fields_in columns.now places.now key.now nulls.now unpack.now plain.now) place }
-{
-    if place >= columns.len() {
-        return FieldRef::Null;
-    }
-    if is_in(places, place) {
-        held_field(columns, places, key, unpack, place)
-    } else {
-        plain_field(columns, places, place, nulls, plain)
-    }
-}
-
-/// Whether the rows of a table have hidden numbers.
-pub fn is_hidden(def: &TableDef) -> bool
-    ensures { result ≡ is_hidden def.now }
-{
-    match def.primary.columns.as_slice() {
-        [] => true,
-        [_, ..] => false,
-    }
-}
-
-/// Whether a field is the number of a stamp.
-fn is_stamp(field: &FieldRef<'_>, stamp: u64) -> bool
-    ensures { (kind : Kind) → result ≡ is_equal (field_value kind field.now) (ANumber (pos stamp)) }
-{
-    match field {
-        FieldRef::Number(number) => !(*number < stamp as i128 || (stamp as i128) < *number),
-        FieldRef::Null | FieldRef::Slice(_) | FieldRef::Pieces(_) => false,
-    }
-}
-
-/// A row that lies in a key and a value, and borrows both. Contracts see its definition and the
-/// row.
+/// A row that lies in a key and a value, and borrows both. Contracts see its definition, the row,
+/// and the key and the value.
 #[derive(Drop)]
 pub struct RowRef<'a> {
     def: &'a TableDef,
     key: &'a [u8],
-    nulls: &'a [u8],
-    unpack: &'a [u8],
-    plain: &'a [u8],
-    hidden: Option<u64>,
-    stamp: Option<u64>,
+    value: &'a [u8],
+    parts: RowParts,
 }
 
 impl<'a> Model for RowRef<'a> {
-    ghost use Rattle.mr_rowval.specs.Decoded.{Decoded, IsDecoded, fields_in};
+    ghost use Rattle.mr_rowval.specs.Decoded.{Decoded};
+    ghost use Rattle.mr_rowval.specs.Parts.{ArePartsOf, row_in};
 
     ghost Value = { Decoded };
 
-    ghost view = { λ r. record { def = r.def.now; row = record { hidden = r.hidden; stamp = r.stamp; fields = fields_in r.def.now.columns r.def.now.primary.columns r.key.now r.nulls.now r.unpack.now r.plain.now } } };
+    ghost view = { λ r. record { def = r.def.now; row = row_in r.def.now r.key.now r.value.now; key = r.key.now; value = r.value.now } };
 
-    ghost invariant = { λ r. IsDecoded r.def.now.columns r.def.now.primary.columns r.key.now r.nulls.now r.unpack.now r.plain.now };
+    ghost invariant = { λ r. ArePartsOf r.def.now r.key.now r.value.now r.parts };
 }
 
-/// The row of these bytes behind a key's index number and of this value, whatever its stamp is.
-fn row_at<'a>(
+/// The parts of a row that was walked over.
+fn parts_of(walked: &Walked<'_>, key: &[u8], value: &[u8]) -> RowParts
+    ensures { WalksEntry walked.now.def key.now value.now (Ok walked.now) (row_read walked.now.def key.now value.now) → ArePartsOf walked.now.def key.now value.now result }
+{
+    let columns = walked.def.columns.as_slice();
+    let places = walked.def.primary.columns.as_slice();
+    RowParts {
+        hidden: walked.hidden,
+        stamp: walked.stamp,
+        unpack: value.len().saturating_sub(walked.unpack.len()),
+        spots: plain_spots(columns, places, walked.nulls, walked.plain, value),
+    }
+}
+
+/// A column of a row without its parts, as for those behind the first 64.
+fn walked_field<'a>(def: &'a TableDef, key: &'a [u8], value: &'a [u8], place: usize) -> FieldRef<'a>
+    ensures { (row : Row) → row_read def.now key.now value.now ≡ Ok row → field_value (kind_at def.now.columns place) result ≡ value_at row.fields place }
+{
+    match Walked::decode(def, key, value) {
+        Err(_) => FieldRef::Null,
+        Ok(walked) => walked.field_at(place),
+    }
+}
+
+fn behind(bytes: &[u8], at: usize) -> &[u8]
+    requires { at ≤ length bytes.now }
+    ensures { result.now ≡ drop at bytes.now }
+{
+    bytes.split_at(at).1
+}
+
+/// The column at a place of a row of which the parts are known.
+fn field_by<'a>(
     def: &'a TableDef,
     key: &'a [u8],
-    hidden: Option<u64>,
     value: &'a [u8],
-) -> Result<RowRef<'a>, BytesLeft>
-    ensures { TakesRow def.now value.now result (value_read def.now key.now hidden value.now) }
+    parts: &RowParts,
+    place: usize,
+) -> FieldRef<'a>
+    requires { ArePartsOf def.now key.now value.now parts.now }
+    ensures { field_value (kind_at def.now.columns place) result ≡ value_at (row_in def.now key.now value.now).fields place }
 {
-    let (stamp, nulls) = wanted_at(def.ttl.is_some(), value)?;
     let columns = def.columns.as_slice();
     let places = def.primary.columns.as_slice();
-    let (unpack, plain) = parts_at(columns, places, key, nulls)?;
-    Ok(RowRef {
-        def,
-        key,
-        nulls,
-        unpack,
-        plain,
-        hidden,
-        stamp,
-    })
+    if place >= 64 || place >= columns.len() {
+        return walked_field(def, key, value, place);
+    }
+    if is_in(places, place) {
+        let body = behind(key, 4);
+        let unpack = behind(value, parts.unpack);
+        held_field(columns, places, body, unpack, place)
+    } else {
+        spot_field(columns[place].ty.kind, value, parts.spots[place])
+    }
 }
 
 impl<'a> RowRef<'a> {
@@ -140,28 +101,46 @@ impl<'a> RowRef<'a> {
         key: &'a [u8],
         value: &'a [u8],
     ) -> Result<RowRef<'a>, Malformed>
-        ensures { DecodesRow def.now (length key.now + length value.now) result (row_read def.now key.now value.now) }
+        ensures decodes { DecodesRow def.now (length key.now + length value.now) result (row_read def.now key.now value.now) }
+        ensures same { IfOk result (λ row. (row.key ≡ key.now) × (row.value ≡ value.now)) }
     {
-        let columns = def.columns.as_slice();
-        let places = def.primary.columns.as_slice();
-        let size = key.len() as u64;
-        match key_at(is_hidden(def), columns, places, key) {
-            Err(left) => Err(Malformed(size - left as u64)),
-            Ok((body, hidden)) => match row_at(def, body, hidden, value) {
-                Err(left) => Err(Malformed(size + (value.len() - left) as u64)),
-                Ok(row) => {
-                    if row.has_its_stamp() {
-                        Ok(row)
-                    } else {
-                        Err(Malformed(size))
-                    }
-                }
-            },
+        match Walked::decode(def, key, value) {
+            Err(malformed) => Err(malformed),
+            Ok(walked) => {
+                let parts = parts_of(&walked, key, value);
+                Ok(RowRef {
+                    def,
+                    key,
+                    value,
+                    parts,
+                })
+            }
         }
     }
 
-    /// The value of a column; NULL for a column that isn't there. It costs no more than one walk
-    /// over the columns before it.
+    /// The row of a key and a value whose parts are known: it judges nothing.
+    pub fn of(def: &'a TableDef, key: &'a [u8], value: &'a [u8], parts: RowParts) -> RowRef<'a>
+        requires { ArePartsOf def.now key.now value.now parts }
+        ensures { result ≡ record { def = def.now; row = row_in def.now key.now value.now; key = key.now; value = value.now } }
+    {
+        RowRef {
+            def,
+            key,
+            value,
+            parts,
+        }
+    }
+
+    /// Where the columns lie, for this key and this value alone.
+    pub fn parts(&self) -> RowParts
+        ensures { ArePartsOf self.now.def self.now.key self.now.value result }
+    {
+        self.parts
+    }
+
+    /// The value of a column; NULL for a column that isn't there. A column that isn't in the key
+    /// is found at its place, without a look at those before it; one of the key costs a walk over
+    /// the key.
     pub fn field(&self, column: u8) -> FieldRef<'a>
         ensures { field_value (kind_at self.now.def.columns column) result ≡ value_at self.now.row.fields column }
     {
@@ -173,40 +152,22 @@ impl<'a> RowRef<'a> {
         ensures { field_value (kind_at self.now.def.columns place) result ≡ value_at self.now.row.fields place }
     {
         let def: &'a TableDef = self.def;
-        let columns = def.columns.as_slice();
-        let places = def.primary.columns.as_slice();
-        let (key, nulls): (&'a [u8], &'a [u8]) = (self.key, self.nulls);
-        let (unpack, plain): (&'a [u8], &'a [u8]) = (self.unpack, self.plain);
-        field_of(columns, places, key, nulls, unpack, plain, place)
+        let key: &'a [u8] = self.key;
+        let value: &'a [u8] = self.value;
+        field_by(def, key, value, &self.parts, place)
     }
 
     /// The stamp, which is there where the table has a TTL.
     pub fn stamp(&self) -> Option<u64>
         ensures { result ≡ self.now.row.stamp }
     {
-        self.stamp
+        self.parts.stamp
     }
 
     /// The hidden number, which is there where the table has no primary key.
     pub fn hidden(&self) -> Option<u64>
         ensures { result ≡ self.now.row.hidden }
     {
-        self.hidden
-    }
-
-    /// Whether the stamp is the value of the column that the TTL names, if it names one.
-    fn has_its_stamp(&self) -> bool
-        ensures { result ≡ is_stamp_of self.now.def.ttl self.now.row }
-    {
-        match self.def.ttl {
-            None => true,
-            Some(ttl) => match ttl.column {
-                None => true,
-                Some(place) => match self.stamp {
-                    None => false,
-                    Some(stamp) => is_stamp(&self.field(place), stamp),
-                },
-            },
-        }
+        self.parts.hidden
     }
 }

@@ -1,6 +1,6 @@
 use Rattle.std.proofs.Common.{arith}
 use Rattle.mr_rowval.proofs.Decoding.{found_all, found_more, found_end}
-use Rattle.mr_rowval.proofs.row_ref.parts_at.Goals as goal
+use Rattle.mr_rowval.proofs.walked.parts_at.Goals as goal
 
 pub returns-then-rest-gt0 : goal.returns-then-rest-gt0
 returns-then-rest-gt0 c =

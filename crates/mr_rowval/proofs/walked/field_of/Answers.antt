@@ -1,7 +1,7 @@
 use Rattle.std.proofs.Common.{◌≡◌, ◌∙◌, sym, arith, length}
 use Rattle.mr_rowval.specs.Decoded.{flags_in, held_in, fields_in}
 use Rattle.mr_rowval.proofs.Decoding.{sizes, past_end, in_key}
-use Rattle.mr_rowval.proofs.row_ref.field_of.Goals as goal
+use Rattle.mr_rowval.proofs.walked.field_of.Goals as goal
 
 pub returns-then-place-columns : goal.returns-then-place-columns
 returns-then-place-columns c =

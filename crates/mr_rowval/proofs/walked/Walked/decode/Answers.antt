@@ -1,7 +1,9 @@
+use Rattle.mr_types.specs.Rows.{is_hidden}
 use Rattle.std.proofs.Common.{◌+◌, ◌∙◌, arith, length, Ok, Err}
 use Rattle.mr_rowval.specs.RowValue.{value_read}
 use Rattle.mr_rowval.proofs.Decoding.{key_args, key_offends, key_is_read, then_stamped, stamp_passes, stamp_offends}
-use Rattle.mr_rowval.proofs.row_ref.RowRef.decode.Goals as goal
+use Rattle.mr_rowval.proofs.PartsAre.{its_key, its_hidden}
+use Rattle.mr_rowval.proofs.walked.Walked.decode.Goals as goal
 
 pub returns-in-Err : goal.returns-in-Err
 returns-in-Err c =
@@ -25,6 +27,8 @@ returns-then-has_its_stamp c =
       key_is_read def c.args.key.now value c.in-Ok.body.now c.in-Ok.hidden read ∙ then_stamped def (length value) (value_read def c.in-Ok.body.now c.in-Ok.hidden value) (Ok row) c.in-Ok-row_at.ensures.0
           ∙ stamp_passes def c.in-Ok-row_at.row.def (length value) row c.has_its_stamp.result c.in-Ok-row_at.ensures.1 c.has_its_stamp.ensures c.if-has_its_stamp.true,
       c.in-Ok-row_at.ensures.1,
+      its_key (is_hidden def) def.columns def.primary.columns c.args.key.now c.in-Ok.body.now c.in-Ok-row_at.row.body c.in-Ok.hidden row.hidden read c.in-Ok-row_at.ensures.2 (its_hidden def c.in-Ok.body.now c.in-Ok.hidden value row c.in-Ok-row_at.ensures.0),
+      c.in-Ok-row_at.ensures.3,
     )
 
 pub returns-else-has_its_stamp : goal.returns-else-has_its_stamp
