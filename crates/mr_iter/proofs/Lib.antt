@@ -8,3 +8,8 @@ mod Runs
 mod Steady
 mod Spent
 mod Newest
+mod Placing
+mod Newer
+mod Views
+mod Walking
+mod Seeking

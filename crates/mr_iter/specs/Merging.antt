@@ -65,6 +65,7 @@ merge_state direction order cs = record {
   current = first_of cs order;
   rest = λ image. others (merged (version_cmp direction) (lefts cs image));
   steps = total (λ (c : CursorState). c.steps) cs;
+  most = total (λ (c : CursorState). c.most) cs;
   reads = total (λ (c : CursorState). c.reads) cs;
   asked = total (λ (c : CursorState). c.asked) cs;
   distinct = λ image. list_all (λ (c : CursorState). c.distinct image) cs && is_strict direction (merged (version_cmp direction) (lists cs image));

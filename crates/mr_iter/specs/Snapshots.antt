@@ -52,6 +52,7 @@ snapshot_state number placed s = record {
   current = cond placed s.current None;
   rest = λ image. shown number (key_of s.current) (s.rest image);
   steps = s.steps;
+  most = s.most;
   reads = s.reads;
   asked = s.asked;
   distinct = s.distinct;

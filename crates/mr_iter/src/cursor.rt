@@ -1,5 +1,5 @@
 //! A finite ordered list of versions, and a place in it.
-ghost use Rattle.std.specs.Prelude.{◌≡◌, ◌<◌, ℕ, List, Option, IsTrue, IsSome, IfSome, IfErr, OnOk, OnErr, is_some, is_none, unwrap_or, [], None};
+ghost use Rattle.std.specs.Prelude.{◌≡◌, ◌<◌, ◌≤◌, ℕ, List, Option, IsTrue, IsSome, IfSome, IfErr, OnOk, OnErr, is_some, is_none, unwrap_or, [], None};
 ghost use Rattle.mr_base.specs.Disk.{Tells, Image, seen};
 ghost use Rattle.mr_base.specs.Calls.{Same, Counts, Reads};
 ghost use Rattle.mr_iter.specs.Versions.{Version, IsInOrder, version_cmp, from_key};
@@ -68,6 +68,9 @@ pub trait Listed {
 
     /// Steps are left where it stands on a version.
     ghost going: { (c : Self) → is_some (cursor c).current ≡ Rattle.std.specs.Prelude.true → 0 < (cursor c).steps };
+
+    /// No more steps are left than ever can be.
+    ghost bounded: { (c : Self) → (cursor c).steps ≤ (cursor c).most };
 }
 
 /// Moves over a list of versions. No move changes what is on the disk. After an error it stands at the end, and has read no
