@@ -13,3 +13,4 @@ mod Newer
 mod Views
 mod Walking
 mod Seeking
+pub mod Bounds

@@ -92,6 +92,7 @@ module _ {K : Type 0} (f : K → CursorState) (whole : K → Image → Type 0) (
     direction = refl;
     files = kept_files xs ys all;
     most = kept_most xs ys all;
+    anew = refl;
     versions = λ i. ap (merged (version_cmp d)) (kept_lists xs ys all i);
     distinct = λ i. let e = kept_distinct xs ys all i in let es = kept_lists xs ys all i in cc;
     reads_to = λ i key place. kept_sums (λ c. c.reads_to) (λ x y kept. kept.reads_to) xs ys all i key place;

@@ -121,10 +121,10 @@ module _ (d : Direction) (number : ℕ) where
   tie v w same = ap (key_cmp d v.key) (sym same) ∙ tied_itself (key_total d) v.key
 
   -- of one key the greater one is older
-  older : (v w : Version) → v.key ≡ w.key → is_gt (version_cmp d v w) ≡ true → v.sequence < w.sequence
+  pub older : (v w : Version) → v.key ≡ w.key → is_gt (version_cmp d v w) ≡ true → v.sequence < w.sequence
   older v w same gt = gt_number w.sequence v.sequence (second_gt (key_cmp d v.key w.key) (nat_cmp w.sequence v.sequence) (tie v w same) gt)
 
-  upto_front : (v w : Version) → v.key ≡ w.key → is_gt (version_cmp d v w) ≡ false → w.sequence ≤ v.sequence
+  pub upto_front : (v w : Version) → v.key ≡ w.key → is_gt (version_cmp d v w) ≡ false → w.sequence ≤ v.sequence
   upto_front v w same le = le_number w.sequence v.sequence (second_le (key_cmp d v.key w.key) (nat_cmp w.sequence v.sequence) (tie v w same) le)
 
   pub newest_behind : (key : List ℕ) (v : Version) (vs : List Version) → is_at number key v ≡ true → IsAtFront (version_cmp d) v vs → later (Some v) (newest number key vs) ≡ Some v

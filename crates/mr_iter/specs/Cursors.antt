@@ -10,7 +10,8 @@ use Rattle.mr_base.specs.declared.stop.Direction.{Direction}
 
 -- A cursor: its direction, the files that it reads, its list of versions by what these files have, the version that it stands
 -- on, those behind it, how many steps are left at most, how many ever can be, and the reads and bytes asked for since the last seek. Then, for bounds on these:
--- whether no version stands twice among those that it goes over; whether its last seek was for this key, or for one that costs
+-- whether a seek counts anew, so that one that failed has counted no more than a walk to the end may; whether no version stands
+-- twice among those that it goes over; whether its last seek was for this key, or for one that costs
 -- the same; and what it may have read, and asked for, from a seek for a key up to a version, or up to the end.
 pub record CursorState : Type 0 where
   pub direction : Direction
@@ -22,6 +23,7 @@ pub record CursorState : Type 0 where
   pub most : ℕ
   pub reads : ℕ
   pub asked : ℕ
+  pub anew : Bool
   pub distinct : Image → Bool
   pub sought : List ℕ → Bool
   pub reads_to : Image → List ℕ → Option Version → ℕ
@@ -40,6 +42,7 @@ pub record SameList (old new : CursorState) : Type 0 where
   pub direction : new.direction ≡ old.direction
   pub files : new.files ≡ old.files
   pub most : new.most ≡ old.most
+  pub anew : new.anew ≡ old.anew
   pub versions : (image : Image) → new.versions image ≡ old.versions image
   pub distinct : (image : Image) → new.distinct image ≡ old.distinct image
   pub reads_to : (image : Image) (key : List ℕ) (place : Option Version) → new.reads_to image key place ≡ old.reads_to image key place

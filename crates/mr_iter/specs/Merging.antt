@@ -68,6 +68,7 @@ merge_state direction order cs = record {
   most = total (λ (c : CursorState). c.most) cs;
   reads = total (λ (c : CursorState). c.reads) cs;
   asked = total (λ (c : CursorState). c.asked) cs;
+  anew = false;
   distinct = λ image. list_all (λ (c : CursorState). c.distinct image) cs && is_strict direction (merged (version_cmp direction) (lists cs image));
   sought = λ key. list_all (λ (c : CursorState). c.sought key) cs;
   reads_to = λ image key place. total (λ (c : CursorState). c.reads_to image key (first_at direction place (c.versions image))) cs;

@@ -55,6 +55,7 @@ snapshot_state number placed s = record {
   most = s.most;
   reads = s.reads;
   asked = s.asked;
+  anew = s.anew;
   distinct = s.distinct;
   sought = s.sought;
   reads_to = s.reads_to;

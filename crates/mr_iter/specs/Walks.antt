@@ -40,13 +40,14 @@ pub image_same : (s t : State) → Same s t → seen t ≡ seen s
 image_same s t same = ap (λ (m : Moment). λ file. (m.files file).bytes) (same_present s t same)
 
 pub same_list : (s : CursorState) → SameList s s
-same_list s = record { direction = refl; files = refl; most = refl; versions = λ image. refl; distinct = λ image. refl; reads_to = λ image key place. refl; asked_to = λ image key place. refl }
+same_list s = record { direction = refl; files = refl; most = refl; anew = refl; versions = λ image. refl; distinct = λ image. refl; reads_to = λ image key place. refl; asked_to = λ image key place. refl }
 
 pub list_then : (a b c : CursorState) → SameList a b → SameList b c → SameList a c
 list_then a b c first second = record {
   direction = second.direction ∙ first.direction;
   files = second.files ∙ first.files;
   most = second.most ∙ first.most;
+  anew = second.anew ∙ first.anew;
   versions = λ image. second.versions image ∙ first.versions image;
   distinct = λ image. second.distinct image ∙ first.distinct image;
   reads_to = λ image key place. second.reads_to image key place ∙ first.reads_to image key place;

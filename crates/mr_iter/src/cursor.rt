@@ -88,7 +88,8 @@ pub trait Cursor<D: Disk>: Listed {
         ensures found { Tells (D.disk disk.old) → Self.whole self.old (seen (D.disk disk.old)) → OnOk result (left (Self.cursor self.new) (seen (D.disk disk.old)) ≡ from_key (Self.cursor self.old).direction key.now ((Self.cursor self.old).versions (seen (D.disk disk.old)))) }
         ensures sought { OnOk result (IsTrue ((Self.cursor self.new).sought key.now)) }
         ensures steady { Tells (D.disk disk.old) → Self.whole self.old (seen (D.disk disk.old)) → OnOk result (Self.steady self.new (seen (D.disk disk.old))) }
-        ensures spent { Tells (D.disk disk.old) → Self.whole self.old (seen (D.disk disk.old)) → IsTrue ((Self.cursor self.old).distinct (seen (D.disk disk.old))) → OnErr result (Reads ((Self.cursor self.old).reads_to (seen (D.disk disk.old)) key.now None) ((Self.cursor self.old).asked_to (seen (D.disk disk.old)) key.now None) (D.disk disk.old) (D.disk disk.new)) };
+        ensures spent { Tells (D.disk disk.old) → Self.whole self.old (seen (D.disk disk.old)) → IsTrue ((Self.cursor self.old).distinct (seen (D.disk disk.old))) → OnErr result (Reads ((Self.cursor self.old).reads_to (seen (D.disk disk.old)) key.now None) ((Self.cursor self.old).asked_to (seen (D.disk disk.old)) key.now None) (D.disk disk.old) (D.disk disk.new)) }
+        ensures anew { Tells (D.disk disk.old) → Self.whole self.old (seen (D.disk disk.old)) → IsTrue ((Self.cursor self.old).distinct (seen (D.disk disk.old))) → IsTrue (Self.cursor self.old).anew → OnErr result (IsWithinEnd (Self.cursor self.new) (seen (D.disk disk.old)) key.now) };
 
     /// Goes one version on. Takes memory.
     fn next(&mut self, disk: &mut D) -> Result<(), Stop>

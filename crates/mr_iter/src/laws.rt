@@ -1,11 +1,11 @@
 //! What follows from the definitions, for callers to cite.
 
-ghost use Rattle.std.specs.Prelude.{◌≡◌, ◌↔◌, ◌≤◌, ◌<◌, ◌∷◌, ℕ, List, Some, IsTrue, false, filter, map, length};
+ghost use Rattle.std.specs.Prelude.{◌≡◌, ◌↔◌, ◌≤◌, ◌<◌, ◌∷◌, ℕ, List, Some, IsTrue, false, filter, map, length, drop};
 ghost use Rattle.std.specs.List.{AllByRecursion};
 ghost use Rattle.mr_base.specs.declared.stop.Direction.{Direction};
-ghost use Rattle.mr_iter.specs.Versions.{Version, version_cmp, IsInOrder, place_in, merged, is_strict};
+ghost use Rattle.mr_iter.specs.Versions.{Version, version_cmp, IsInOrder, place_in, merged, first, is_strict};
 ghost use Rattle.mr_iter.specs.Snapshots.{at_snapshot, IsAmong, IsNewest};
-ghost use Rattle.mr_iter.specs.Newest.{newest, later, latest, alone, is_of, is_at, shown_one, NoneLater};
+ghost use Rattle.mr_iter.specs.Newest.{newest, later, latest, alone, is_of, is_at, shown_one, only_of, NoneLater, IsPlaceOf};
 
 /// Of versions in order, no two of the same key and number, the view at a number has just those that are puts and the
 /// newest of their keys not past the number.
@@ -43,4 +43,9 @@ pub fn newest_of_merged()
 /// A version that is placed into the first of many lists is placed into all.
 pub fn place_in_first_child()
     ensures { (direction : Direction) (v : Version) (versions : List Version) (more : List (List Version)) → merged (version_cmp direction) (place_in (version_cmp direction) v versions ∷ more) ≡ place_in (version_cmp direction) v (merged (version_cmp direction) (versions ∷ more)) }
+{}
+
+/// Of versions in order, the newest of a key that isn't past a number stands at the place of the key and the number, or nowhere.
+pub fn newest_is_at_its_place()
+    ensures { (direction : Direction) (number : ℕ) (key : List ℕ) (versions : List Version) (n : ℕ) → IsInOrder (version_cmp direction) versions → IsPlaceOf direction number key versions n → newest number key versions ≡ only_of key (first (drop n versions)) }
 {}

@@ -16,8 +16,8 @@ mod walk;
 pub use cursor::{Cursor, Listed};
 pub use finding::seek_newest;
 pub use laws::{
-    newest_of_merged, newest_with_version, place_in_first_child, view_has_keys_once,
-    view_has_newest, views_have_the_newest, views_without_later,
+    newest_is_at_its_place, newest_of_merged, newest_with_version, place_in_first_child,
+    view_has_keys_once, view_has_newest, views_have_the_newest, views_without_later,
 };
 pub use merge::Merge;
 pub use one_of::OneOf;
