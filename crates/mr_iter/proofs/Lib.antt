@@ -9,7 +9,7 @@ mod Steady
 mod Spent
 mod Newest
 mod Placing
-mod Newer
+pub mod Newer
 mod Views
 mod Walking
 mod Seeking
