@@ -175,3 +175,9 @@ block_length entries offsets vs built = omega (
   length-append (big_bytes 4 (length vs)) (places_bytes (4 + 4 * length vs) vs ++ entries_bytes vs),
   length-bytes_high_first 4 (length vs),
 )
+
+pub entry_length : (v : Version) → length (entry_bytes v) ≡ 17 + length v.key + length (unwrap_or v.put [])
+entry_length v = omega (arith, length-append v.key (big_bytes 8 v.sequence ++ (kind_byte (is_some v.put) ∷ (big_bytes 4 (length (unwrap_or v.put [])) ++ unwrap_or v.put []))))
+
+pub one_length : (v : Version) → FitsEntry v → length (block_bytes (v ∷ [])) ≡ 25 + length v.key + length (unwrap_or v.put [])
+one_length v fits = omega (arith, block_length (entries_bytes (v ∷ [])) (0 ∷ []) (v ∷ []) (record { bytes = refl; places = refl; fits = (fits, tt) }), length-append (entry_bytes v) [], entry_length v)

@@ -4,8 +4,8 @@ use Rattle.std.specs.List.{list_all}
 use Rattle.std.proofs.lemmas.Bool.{cases_eq, eq-eqb, ne_eqb}
 use Rattle.byteorder.specs.Endian.{big_bytes}
 use Rattle.mr_iter.specs.Versions.{Version, as_version}
-use Rattle.mr_block.specs.Fields.{is_byte, number_in, bytes_in}
-use Rattle.mr_block.specs.Block.{kind_byte, entry_bytes, kind_in, value_length_in, value_of, entry_in}
+use Rattle.mr_block.specs.Fields.{◌>>=◌, is_byte, number_in, bytes_in}
+use Rattle.mr_block.specs.Block.{kind_byte, entry_bytes, kind_in, value_length_in, value_of, key_in, entry_in}
 use Rattle.mr_block.proofs.FieldLaws.{and_true, bound, IsRead, number_only, bytes_only}
 
 pub kind_only : (s : List ℕ) (r : Bool × List ℕ) → list_all is_byte s ≡ true → kind_in s ≡ Ok r → IsRead s (kind_byte r.0 ∷ []) r.1
@@ -39,8 +39,28 @@ length_only put s r is = let b = bound (number_in 4 s) _ r is in by_kind put b.0
       | inr some ↦ let no : Err (length s) ≡ Ok r = sym (ap (λ t. cond t (Ok z) (Err (length s))) (ne_eqb z.0 0 some)) ∙ f in cc
     ]
 
+pub same_key : (r : Result (List ℕ × List ℕ) ℕ) (k k' rest rest' : List ℕ) → Ok (k, rest) ≡ r → r ≡ Ok (k', rest') → k ≡ k'
+same_key (Ok x) k k' rest rest' e f = let same : (k, rest) ≡ (k', rest') = cc in ap (λ (p : List ℕ × List ℕ). p.0) same
+same_key (Err left) k k' rest rest' e f = cc
+
+pub no_key : (r : Result (List ℕ × List ℕ) ℕ) (left : ℕ) (k rest : List ℕ) → Err left ≡ r → r ≡ Ok (k, rest) → ⊥
+no_key (Ok x) left k rest e f = cc
+no_key (Err m) left k rest e f = cc
+
 pub ok_same : {A : Type 0} (r : Result A ℕ) (x y : A) → r ≡ Ok x → r ≡ Ok y → x ≡ y
 ok_same r x y e f = cc
+
+-- the key in front of an entry
+pub key_front : (s : List ℕ) (r : Version × List ℕ) → entry_in s ≡ Ok r → (rest : List ℕ) × (key_in s ≡ Ok (r.0.key, rest))
+key_front s r is =
+    let size = bound (number_in 4 s) _ r is in
+    let key = bound (bytes_in size.0.0 size.0.1) _ r size.2 in
+    let sequence = bound (number_in 8 key.0.1) _ r key.2 in
+    let put = bound (kind_in sequence.0.1) _ r sequence.2 in
+    let count = bound (value_length_in put.0.0 put.0.1) _ r put.2 in
+    let value = bound (bytes_in count.0.0 count.0.1) _ r count.2 in
+    let here : (as_version key.0.0 sequence.0.0 (value_of put.0.0 value.0.0), value.0.1) ≡ r = ok_same _ _ _ refl value.2 in
+    (key.0.1, ap (λ z. z >>= (λ (p : ℕ × List ℕ). bytes_in p.0 p.1)) size.1 ∙ key.1 ∙ ap (λ (p : Version × List ℕ). Ok (p.0.key, key.0.1)) here)
 
 no_bytes : (xs : List ℕ) → length xs ≡ 0 → xs ≡ []
 no_bytes [] e = refl

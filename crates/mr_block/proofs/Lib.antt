@@ -6,3 +6,4 @@ mod Blocks
 mod Places
 mod Writing
 mod Building
+mod Newest

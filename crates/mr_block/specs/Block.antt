@@ -42,6 +42,11 @@ value_length_in put bytes = do
 abbrev pub value_of : Bool → List ℕ → Option (List ℕ)
 value_of put value = if put then Some value else None
 
+abbrev pub key_in : List ℕ → Read (List ℕ)
+key_in bytes = do
+  size ← number_in 4 bytes
+  bytes_in size.0 size.1
+
 abbrev pub entry_in : List ℕ → Read Version
 entry_in bytes = do
   size ← number_in 4 bytes

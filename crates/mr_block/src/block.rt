@@ -12,7 +12,7 @@ ghost use Rattle.byteorder.specs.Endian.{big_number};
 ghost use Rattle.mr_block.specs.Block.{entries_in, block_in, short_at, outcome, IsBlock, list_of, no_version};
 ghost use Rattle.mr_block.specs.Given.{version_of};
 
-use crate::entry::{Entry, entry_of};
+use crate::entry::{Entry, entry_of, key_of};
 use crate::fields::u32_in;
 use byteorder::{BigEndian, ByteOrder};
 use mr_base::Malformed;
@@ -100,5 +100,18 @@ pub fn entry_at(block: &[u8], i: usize) -> Entry<'_>
             is_put: false,
             value: &[],
         },
+    }
+}
+
+/// The key of entry i of a block. Nothing else of the entry is read.
+pub fn key_at(block: &[u8], i: usize) -> &[u8]
+    requires block { IsBlock block.now }
+    requires within { i < length (list_of (block_in block.now)) }
+    ensures { result.now ≡ (get_or (list_of (block_in block.now)) i no_version).key }
+{
+    let place = place_at(block, 4 + 4 * i);
+    match key_of(rest_at(block, place)) {
+        Ok((key, _)) => key,
+        Err(_) => &[],
     }
 }

@@ -1,11 +1,13 @@
 //! A block where it stands, as a list of versions.
-ghost use Rattle.std.specs.Prelude.{◌≡◌, ◌<◌, ◌≤◌, ◌-◌, length, IfOk, IfErr, Err, Ok, drop, get_or, is_some, unwrap_or, [], true, false};
-ghost use Rattle.std.specs.Ordering.{is_lt};
-ghost use Rattle.mr_iter.specs.Versions.{key_cmp, version_cmp, from_key, IsInOrder};
+ghost use Rattle.std.specs.Prelude.{◌≡◌, ◌<◌, ◌≤◌, ◌-◌, length, IfOk, IfErr, IfSome, Err, Ok, None, drop, get_or, is_some, unwrap_or, [], true, false};
+ghost use Rattle.std.specs.Option.{option_map};
+ghost use Rattle.std.specs.Ordering.{is_lt, is_gt};
+ghost use Rattle.mr_iter.specs.Versions.{as_version, key_cmp, version_cmp, from_key, IsInOrder};
+ghost use Rattle.mr_iter.specs.Newest.{newest, IsPlaceOf};
 ghost use Rattle.mr_block.specs.Block.{block_in, block_bytes, no_version, IsBlock};
 ghost use Rattle.mr_block.specs.Given.{version_of};
 
-use crate::block::{check_block, entry_at, place_at};
+use crate::block::{check_block, entry_at, key_at, place_at};
 use crate::entry::Entry;
 use mr_base::{Direction, Malformed};
 use mr_iter::compare_keys;
@@ -73,6 +75,14 @@ impl<'a> BlockRef<'a> {
         entry_at(self.block, i)
     }
 
+    /// The key.
+    pub fn key(&self, i: usize) -> &'a [u8]
+        requires { i < length self.now }
+        ensures { result.now ≡ (get_or self.now i no_version).key }
+    {
+        key_at(self.block, i)
+    }
+
     /// The key and the value, which is empty for a deletion.
     pub fn entry(&self, i: usize) -> (&'a [u8], &'a [u8])
         requires { i < length self.now }
@@ -107,7 +117,7 @@ impl<'a> BlockRef<'a> {
         requires { i < length self.now }
         ensures { result ≡ is_lt (key_cmp direction (get_or self.now i no_version).key key.now) }
     {
-        compare_keys(direction, self.at(i).key, key).is_lt()
+        compare_keys(direction, self.key(i), key).is_lt()
     }
 
     /// Where the versions begin whose key isn't before this key, if they are in the order of the direction.
@@ -126,5 +136,51 @@ impl<'a> BlockRef<'a> {
             }
         }
         low
+    }
+
+    /// Whether version i comes before that of a key and a number. The number is looked at only where the keys are the same.
+    fn comes_before(&self, i: usize, key: &[u8], number: u64, direction: Direction) -> bool
+        requires { i < length self.now }
+        ensures { result ≡ is_gt (version_cmp direction (as_version key.now number None) (get_or self.now i no_version)) }
+    {
+        let order = compare_keys(direction, key, self.key(i));
+        if order.is_eq() {
+            return self.sequence(i) > number;
+        }
+        order.is_gt()
+    }
+
+    /// Where the version of a key and a number belongs, if the versions are in the order of the direction.
+    fn place_of(&self, key: &[u8], number: u64, direction: Direction) -> usize
+        ensures within { result ≤ length self.now }
+        ensures place { IsPlaceOf direction number key.now self.now result }
+    {
+        let mut low = 0;
+        let mut high = self.count;
+        'halving: while low < high {
+            let middle = low + (high - low) / 2;
+            if self.comes_before(middle, key, number, direction) {
+                low = middle + 1;
+            } else {
+                high = middle;
+            }
+        }
+        low
+    }
+
+    /// Where the newest version of a key stands that isn't past a number, deletions included, if the versions are in the order
+    /// of the direction; None where there is none.
+    pub fn newest(&self, key: &[u8], number: u64, direction: Direction) -> Option<usize>
+        ensures within { IfSome result (λ i. i < length self.now) }
+        ensures found { IsInOrder (version_cmp direction) self.now → option_map (λ i. get_or self.now i no_version) result ≡ newest number key.now self.now }
+    {
+        let i = self.place_of(key, number, direction);
+        if i >= self.count {
+            return None;
+        }
+        if key.cmp(self.key(i)).is_eq() {
+            return Some(i);
+        }
+        None
     }
 }

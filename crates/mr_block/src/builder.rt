@@ -1,5 +1,5 @@
 //! Making a block.
-ghost use Rattle.std.specs.Prelude.{◌≡◌, ◌^◌, nat_lt, length, ◌++◌, ◌∷◌, [], OnOk, OnErr, IfOk, Ok};
+ghost use Rattle.std.specs.Prelude.{◌≡◌, ◌^◌, ◌-◌, min, nat_lt, length, ◌++◌, ◌∷◌, [], OnOk, OnErr, IfOk, Ok};
 ghost use Rattle.std.specs.List.{AllByRecursion};
 ghost use Rattle.std.specs.Option.{option_map};
 ghost use Rattle.mr_iter.specs.Versions.{as_version};
@@ -88,6 +88,15 @@ impl BlockBuilder {
                 Err(Memory)
             }
         }
+    }
+
+    /// The length in bytes of the block of the versions, or the greatest number where it has more.
+    pub fn block_len(&self) -> usize
+        ensures { result ≡ min (length (block_bytes self.now)) (2 ^ 64 - 1) }
+    {
+        4usize
+            .saturating_add(self.offsets.len().saturating_mul(4))
+            .saturating_add(self.entries.len())
     }
 
     /// The block of the versions. Takes memory. A block of 2^32 bytes or more is answered as want of memory.

@@ -1,7 +1,7 @@
 //! One version in a block.
 ghost use Rattle.std.specs.Prelude.{◌≡◌, ◌≤◌, length, IfOk, IfErr};
 ghost use Rattle.mr_block.specs.Fields.{number_given, bytes_given, number_in};
-ghost use Rattle.mr_block.specs.Block.{kind_in, value_length_in, entry_in};
+ghost use Rattle.mr_block.specs.Block.{kind_in, value_length_in, key_in, entry_in};
 ghost use Rattle.mr_block.specs.Given.{kind_given, entry_given};
 
 use crate::fields::{BytesLeft, bytes_of, u32_in, u64_in};
@@ -39,6 +39,14 @@ fn value_length_of(is_put: bool, bytes: &[u8]) -> Result<(u32, &[u8]), BytesLeft
         return Err(bytes.len());
     }
     Ok((size, rest))
+}
+
+/// The key of the entry in front.
+pub fn key_of(bytes: &[u8]) -> Result<(&[u8], &[u8]), BytesLeft>
+    ensures { bytes_given result ≡ key_in bytes.now }
+{
+    let (size, rest) = u32_in(bytes)?;
+    bytes_of(size as usize, rest)
 }
 
 /// The entry in front.

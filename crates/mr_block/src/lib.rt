@@ -7,8 +7,12 @@ mod builder;
 mod entry;
 mod fields;
 mod found;
+mod one;
+mod shared;
 mod write;
 
 pub use block_ref::BlockRef;
 pub use builder::BlockBuilder;
 pub use found::Found;
+pub use one::block_of_one;
+pub use shared::SharedBlock;

@@ -8,3 +8,9 @@ mod Runs
 mod Steady
 mod Spent
 mod Newest
+mod Placing
+pub mod Newer
+mod Views
+mod Walking
+mod Seeking
+pub mod Bounds

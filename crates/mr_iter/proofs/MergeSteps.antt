@@ -81,10 +81,18 @@ module _ {K : Type 0} (f : K → CursorState) (whole : K → Image → Type 0) (
       let later = kept_sums g keeps xs ys all.1 i key place in
       omega (arith, here, later)
 
+  kept_most : (xs ys : List K) → Zipped (KeepsChild f whole image tells) xs ys → total (λ (c : CursorState). c.most) (map f ys) ≡ total (λ (c : CursorState). c.most) (map f xs)
+  kept_most [] [] all = refl
+  kept_most [] (y ∷ ys) all = absurd all
+  kept_most (x ∷ xs) [] all = absurd all
+  kept_most (x ∷ xs) (y ∷ ys) all = let here = all.0.list.most in let later = kept_most xs ys all.1 in omega (arith, here, later)
+
   pub kept_list : (xs ys : List K) (order order' : List ℕ) → Zipped (KeepsChild f whole image tells) xs ys → SameList (merge_state d order (map f xs)) (merge_state d order' (map f ys))
   kept_list xs ys order order' all = record {
     direction = refl;
     files = kept_files xs ys all;
+    most = kept_most xs ys all;
+    anew = refl;
     versions = λ i. ap (merged (version_cmp d)) (kept_lists xs ys all i);
     distinct = λ i. let e = kept_distinct xs ys all i in let es = kept_lists xs ys all i in cc;
     reads_to = λ i key place. kept_sums (λ c. c.reads_to) (λ x y kept. kept.reads_to) xs ys all i key place;

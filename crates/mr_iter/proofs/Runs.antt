@@ -1,28 +1,10 @@
 -- A run of calls on one cursor: x is the cursor at the start, y the one now, z the one after the next call.
-use Rattle.std.proofs.Common.{◌≡◌, ℕ, IsTrue, Bool, Option, sym, ◌∙◌, subst, arith, List}
+use Rattle.std.proofs.Common.{◌≡◌, ℕ, IsTrue, Bool, Option, sym, subst, List}
 use Rattle.mr_base.specs.Disk.{State, Tells, Image, seen}
 use Rattle.mr_base.specs.Calls.{Same}
-use Rattle.mr_iter.specs.Cursors.{CursorState, SameList, CountsStep}
+use Rattle.mr_iter.specs.Cursors.{CursorState}
 use Rattle.mr_iter.specs.Snapshots.{Passes}
-use Rattle.mr_iter.proofs.SeekLaws.{image_same}
-use Rattle.mr_iter.proofs.Steps.{counts-then, counts-within}
-
-pub list_then : (a b c : CursorState) → SameList a b → SameList b c → SameList a c
-list_then a b c first second = record {
-  direction = second.direction ∙ first.direction;
-  files = second.files ∙ first.files;
-  versions = λ image. second.versions image ∙ first.versions image;
-  distinct = λ image. second.distinct image ∙ first.distinct image;
-  reads_to = λ image key place. second.reads_to image key place ∙ first.reads_to image key place;
-  asked_to = λ image key place. second.asked_to image key place ∙ first.asked_to image key place;
-}
-
-pub counts_step_then : (a b c : CursorState) (s t u : State) → CountsStep a b s t → CountsStep b c t u → CountsStep a c s u
-counts_step_then a b c s t u first second = record {
-  reads = omega (arith, first.reads, second.reads);
-  asked = omega (arith, first.asked, second.asked);
-  disk = counts-within _ _ _ _ s u (omega (arith, first.reads, second.reads)) (omega (arith, first.asked, second.asked)) (counts-then _ _ _ _ s t u first.disk second.disk);
-}
+use Rattle.mr_iter.specs.Walks.{image_same}
 
 module _ {K : Type 0} (whole : K → Image → Type 0) (start mid new : State) (x y z : K) (tells : mid.tells ≡ start.tells) (same : Tells start → Same start mid) (stays : Tells start → whole x (seen start) → whole y (seen start)) where
   pub told_on : Tells start → Tells mid

@@ -1,17 +1,15 @@
 -- What one call on a child says of all.
-use Rattle.std.proofs.Common.{◌≡◌, ℕ, ◌+◌, ◌<◌, ◌≤◌, IsTrue, List, length, get_or, set, take, refl, sym, ◌∙◌, ap, subst, arith}
-use Rattle.mr_base.specs.Disk.{State, Moment, Tells, Image, seen}
+use Rattle.std.proofs.Common.{◌≡◌, ℕ, ◌+◌, ◌<◌, ◌≤◌, IsTrue, List, length, get_or, set, take, sym, ◌∙◌, subst, arith}
+use Rattle.mr_base.specs.Disk.{State, Tells, Image, seen}
 use Rattle.mr_base.specs.Calls.{Counts, Same}
-use Rattle.mr_base.proofs.Moments.{same_present, same_then}
+use Rattle.mr_base.proofs.Moments.{same_then}
 use Rattle.mr_base.specs.declared.stop.Stop.{Stop}
 use Rattle.mr_base.specs.declared.stop.Stop.TheVariants.{Memory, Disk, Full, Damaged}
 use Rattle.mr_iter.specs.Versions.{from_key}
 use Rattle.mr_iter.specs.Cursors.{CursorState, SameList, left, MayStop}
+use Rattle.mr_iter.specs.Walks.{image_same, same_list}
 use Rattle.mr_iter.specs.Children.{Zipped, total, KeepsChild, FoundChild}
 use Rattle.mr_iter.proofs.Steps.{DoneTo, counts-then, counts-within, sum-take_more, sum-take, done-set}
-
-pub image_same : (old new : State) → Same old new → seen new ≡ seen old
-image_same old new same = ap {B = Image} (λ (m : Moment) (file : ℕ). (m.files file).bytes) (same_present old new same)
 
 -- a stop of a later call, as one since the start
 pub stop_since : (start mid new : State) → mid.tells ≡ start.tells → (Tells start → Same start mid) → start.faults ≤ mid.faults → (there all : Image → ℕ → ℕ → Type 0) → ((image : Image) (file at : ℕ) → there image file at → all image file at) →
@@ -24,9 +22,6 @@ stop_since start mid new tells same later there all so (Damaged file at) may = r
   told = λ told. may.told (subst (λ b. IsTrue b) (sym tells) told) ∙ image_same start mid (same told);
   offence = so may.image file at may.offence;
 }
-
-pub same_list : (s : CursorState) → SameList s s
-same_list s = record { direction = refl; files = refl; versions = λ image. refl; distinct = λ image. refl; reads_to = λ image key place. refl; asked_to = λ image key place. refl }
 
 module _ {K : Type 0} (f : K → CursorState) (whole : K → Image → Type 0) (start mid new : State) (tells : mid.tells ≡ start.tells) (same : Tells start → Same start mid) where
   tells_on : Tells start → Tells mid

@@ -11,7 +11,7 @@ use Rattle.mr_iter.specs.Merging.{merge_state, lists}
 use Rattle.mr_iter.specs.Places.{and_split}
 use Rattle.mr_iter.specs.Snapshots.{snapshot_state}
 use Rattle.mr_iter.proofs.MergeSteps.{total-map}
-use Rattle.mr_iter.proofs.SeekLaws.{image_same}
+use Rattle.mr_iter.specs.Walks.{image_same}
 
 pub no_reads : (s : State) → Reads 0 0 s s
 no_reads s = record { reads = omega arith; asked = omega arith }

@@ -9,8 +9,9 @@ use Rattle.mr_iter.specs.Versions.{Version}
 use Rattle.mr_base.specs.declared.stop.Direction.{Direction}
 
 -- A cursor: its direction, the files that it reads, its list of versions by what these files have, the version that it stands
--- on, those behind it, how many steps are left at most, and the reads and bytes asked for since the last seek. Then, for bounds on these:
--- whether no version stands twice among those that it goes over; whether its last seek was for this key, or for one that costs
+-- on, those behind it, how many steps are left at most, how many ever can be, and the reads and bytes asked for since the last seek. Then, for bounds on these:
+-- whether a seek counts anew, so that one that failed has counted no more than a walk to the end may; whether no version stands
+-- twice among those that it goes over; whether its last seek was for this key, or for one that costs
 -- the same; and what it may have read, and asked for, from a seek for a key up to a version, or up to the end.
 pub record CursorState : Type 0 where
   pub direction : Direction
@@ -19,8 +20,10 @@ pub record CursorState : Type 0 where
   pub current : Option Version
   pub rest : Image → List Version
   pub steps : ℕ
+  pub most : ℕ
   pub reads : ℕ
   pub asked : ℕ
+  pub anew : Bool
   pub distinct : Image → Bool
   pub sought : List ℕ → Bool
   pub reads_to : Image → List ℕ → Option Version → ℕ
@@ -38,6 +41,8 @@ left s image = with_current s.current (s.rest image)
 pub record SameList (old new : CursorState) : Type 0 where
   pub direction : new.direction ≡ old.direction
   pub files : new.files ≡ old.files
+  pub most : new.most ≡ old.most
+  pub anew : new.anew ≡ old.anew
   pub versions : (image : Image) → new.versions image ≡ old.versions image
   pub distinct : (image : Image) → new.distinct image ≡ old.distinct image
   pub reads_to : (image : Image) (key : List ℕ) (place : Option Version) → new.reads_to image key place ≡ old.reads_to image key place

@@ -10,3 +10,6 @@ pub mod RunOuts
 pub mod Places
 pub mod MergePlaces
 pub mod MergeFiles
+pub mod Newest
+pub mod Walks
+pub mod OneOf

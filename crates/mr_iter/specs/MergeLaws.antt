@@ -1,5 +1,5 @@
 -- Laws of many cursors as one.
-use Rattle.std.specs.Prelude.{◌≡◌, ℕ, ◌+◌, ◌<◌, Bool, true, false, List, [], ◌∷◌, ◌++◌, length, map, Option, Some, None, is_some, nat_eq, refl, ◌≢◌}
+use Rattle.std.specs.Prelude.{◌≡◌, ℕ, ◌+◌, ◌<◌, ◌≤◌, Bool, true, false, List, [], ◌∷◌, ◌++◌, length, map, Option, Some, None, is_some, nat_eq, refl, ◌≢◌}
 use Rattle.std.proofs.Common.{sym, ◌∙◌, ap, subst, inl, inr, arith, set, get_or, suc, zero}
 use Rattle.std.specs.List.{AllByRecursion, AllByRecursion-prop, list_any}
 use Rattle.std.specs.declared.cmp.Ordering.{Ordering}
@@ -167,3 +167,11 @@ merge_going {K} f law d xs (j ∷ js) is = go xs j is
     go [] j is = cc
     go (x ∷ xs) zero is = omega (arith, law x is)
     go (x ∷ xs) (suc j) is = omega (arith, go xs j is)
+
+-- no more steps are left than ever can be
+pub merge_bounded : {K : Type 0} (f : K → CursorState) → ((c : K) → (f c).steps ≤ (f c).most) → (d : Direction) (xs : List K) (order : List ℕ) → (merge_state d order (map f xs)).steps ≤ (merge_state d order (map f xs)).most
+merge_bounded {K} f law d xs order = go xs
+  where
+    go : (xs : List K) → total (λ (c : CursorState). c.steps) (map f xs) ≤ total (λ (c : CursorState). c.most) (map f xs)
+    go [] = omega arith
+    go (x ∷ xs) = omega (arith, law x, go xs)

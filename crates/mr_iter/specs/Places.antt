@@ -42,7 +42,7 @@ drop_tail n vs v rest is = ap (λ (m : ℕ). drop m vs) (add-one n) ∙ go n vs 
     go (suc n) [] is = cc
     go (suc n) (w ∷ ws) is = go n ws is
 
-all_kept : (d : Direction) (key : List ℕ) (v : Version) (vs : List Version) → is_lt (key_cmp d v.key key) ≡ false → IsAtFront (version_cmp d) v vs → filter (λ w. not (is_lt (key_cmp d w.key key))) vs ≡ vs
+pub all_kept : (d : Direction) (key : List ℕ) (v : Version) (vs : List Version) → is_lt (key_cmp d v.key key) ≡ false → IsAtFront (version_cmp d) v vs → filter (λ w. not (is_lt (key_cmp d w.key key))) vs ≡ vs
 all_kept d key v [] least front = refl
 all_kept d key v (w ∷ ws) least front =
     let kept : is_lt (key_cmp d w.key key) ≡ false = not_before (key_cmp d) (key_total d) v.key w.key key (by_key (key_cmp d v.key w.key) (nat_cmp w.sequence v.sequence) front.0) least in

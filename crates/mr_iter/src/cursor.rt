@@ -1,5 +1,5 @@
 //! A finite ordered list of versions, and a place in it.
-ghost use Rattle.std.specs.Prelude.{◌≡◌, ◌<◌, ℕ, List, Option, IsTrue, IsSome, IfSome, IfErr, OnOk, OnErr, is_some, is_none, unwrap_or, [], None};
+ghost use Rattle.std.specs.Prelude.{◌≡◌, ◌<◌, ◌≤◌, ℕ, List, Option, IsTrue, IsSome, IfSome, IfErr, OnOk, OnErr, is_some, is_none, unwrap_or, [], None};
 ghost use Rattle.mr_base.specs.Disk.{Tells, Image, seen};
 ghost use Rattle.mr_base.specs.Calls.{Same, Counts, Reads};
 ghost use Rattle.mr_iter.specs.Versions.{Version, IsInOrder, version_cmp, from_key};
@@ -68,6 +68,9 @@ pub trait Listed {
 
     /// Steps are left where it stands on a version.
     ghost going: { (c : Self) → is_some (cursor c).current ≡ Rattle.std.specs.Prelude.true → 0 < (cursor c).steps };
+
+    /// No more steps are left than ever can be.
+    ghost bounded: { (c : Self) → (cursor c).steps ≤ (cursor c).most };
 }
 
 /// Moves over a list of versions. No move changes what is on the disk. After an error it stands at the end, and has read no
@@ -85,7 +88,8 @@ pub trait Cursor<D: Disk>: Listed {
         ensures found { Tells (D.disk disk.old) → Self.whole self.old (seen (D.disk disk.old)) → OnOk result (left (Self.cursor self.new) (seen (D.disk disk.old)) ≡ from_key (Self.cursor self.old).direction key.now ((Self.cursor self.old).versions (seen (D.disk disk.old)))) }
         ensures sought { OnOk result (IsTrue ((Self.cursor self.new).sought key.now)) }
         ensures steady { Tells (D.disk disk.old) → Self.whole self.old (seen (D.disk disk.old)) → OnOk result (Self.steady self.new (seen (D.disk disk.old))) }
-        ensures spent { Tells (D.disk disk.old) → Self.whole self.old (seen (D.disk disk.old)) → IsTrue ((Self.cursor self.old).distinct (seen (D.disk disk.old))) → OnErr result (Reads ((Self.cursor self.old).reads_to (seen (D.disk disk.old)) key.now None) ((Self.cursor self.old).asked_to (seen (D.disk disk.old)) key.now None) (D.disk disk.old) (D.disk disk.new)) };
+        ensures spent { Tells (D.disk disk.old) → Self.whole self.old (seen (D.disk disk.old)) → IsTrue ((Self.cursor self.old).distinct (seen (D.disk disk.old))) → OnErr result (Reads ((Self.cursor self.old).reads_to (seen (D.disk disk.old)) key.now None) ((Self.cursor self.old).asked_to (seen (D.disk disk.old)) key.now None) (D.disk disk.old) (D.disk disk.new)) }
+        ensures anew { Tells (D.disk disk.old) → Self.whole self.old (seen (D.disk disk.old)) → IsTrue ((Self.cursor self.old).distinct (seen (D.disk disk.old))) → IsTrue (Self.cursor self.old).anew → OnErr result (IsWithinEnd (Self.cursor self.new) (seen (D.disk disk.old)) key.now) };
 
     /// Goes one version on. Takes memory.
     fn next(&mut self, disk: &mut D) -> Result<(), Stop>

@@ -7,7 +7,7 @@ ghost use Rattle.mr_base.specs.Disk.{Image};
 ghost use Rattle.mr_iter.specs.Merging.{merge_state, first_of, IsMergeQueue, IsOneDirection};
 ghost use Rattle.mr_iter.specs.MergePlaces.{IsMergeSteady, merge_costs, merge_to_end};
 ghost use Rattle.mr_iter.specs.MergeFiles.{merge_not_whole, merge_by_files, merge_offends_by_files};
-ghost use Rattle.mr_iter.specs.MergeLaws.{IsMergeQueue-prop, IsOneDirection-prop, merge_in_order, merge_going};
+ghost use Rattle.mr_iter.specs.MergeLaws.{IsMergeQueue-prop, IsOneDirection-prop, merge_in_order, merge_going, merge_bounded};
 
 use crate::children::seek_all;
 use crate::cursor::{Cursor, Listed};
@@ -71,6 +71,8 @@ impl<C: Listed> Listed for Merge<C> {
     ghost to_end = { λ m image k place whole. merge_to_end C.cursor C.whole C.steady C.costs C.to_end m.direction image k m.children.items m.order.items place whole };
 
     ghost going = { λ m is. merge_going C.cursor C.going m.direction m.children.items m.order.items is };
+
+    ghost bounded = { λ m. merge_bounded C.cursor C.bounded m.direction m.children.items m.order.items };
 }
 
 impl<C: Listed> Merge<C> {

@@ -154,6 +154,8 @@ impl<C: Listed> Listed for AtSnapshot<C> {
     ghost to_end = { λ a image k place whole. snapshot_to_end a.number a.placed (C.cursor a.inner) image k place (C.to_end a.inner image k place whole) };
 
     ghost going = { λ a is. snapshot_going a.number a.placed (C.cursor a.inner) (C.going a.inner) is };
+
+    ghost bounded = { λ a. C.bounded a.inner };
 }
 
 impl<C: Listed> AtSnapshot<C> {

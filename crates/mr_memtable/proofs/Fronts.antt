@@ -82,19 +82,27 @@ decides (suc n) a (x ∷ xs) (y ∷ ys) all_x all_y lt = elim (cases_lt x y) [
     nat_same : (x y : ℕ) → x ≡ y → nat_cmp x y ≡ Equal
     nat_same x y e = sym (nat_cmp_is x y Equal e)
 
-bridge : (xs : List ℕ) → front_of xs ≡ fronted 8 0 xs
+bridge : (xs : List ℕ) → front_of xs ≡ fronted 16 0 xs
 bridge [] = refl
-bridge (a ∷ []) = omega arith
-bridge (a ∷ b ∷ []) = omega arith
-bridge (a ∷ b ∷ c ∷ []) = omega arith
-bridge (a ∷ b ∷ c ∷ d ∷ []) = omega arith
-bridge (a ∷ b ∷ c ∷ d ∷ e ∷ []) = omega arith
-bridge (a ∷ b ∷ c ∷ d ∷ e ∷ f ∷ []) = omega arith
-bridge (a ∷ b ∷ c ∷ d ∷ e ∷ f ∷ g ∷ []) = omega arith
-bridge (a ∷ b ∷ c ∷ d ∷ e ∷ f ∷ g ∷ h ∷ xs) = omega arith
+bridge (x1 ∷ []) = omega arith
+bridge (x1 ∷ x2 ∷ []) = omega arith
+bridge (x1 ∷ x2 ∷ x3 ∷ []) = omega arith
+bridge (x1 ∷ x2 ∷ x3 ∷ x4 ∷ []) = omega arith
+bridge (x1 ∷ x2 ∷ x3 ∷ x4 ∷ x5 ∷ []) = omega arith
+bridge (x1 ∷ x2 ∷ x3 ∷ x4 ∷ x5 ∷ x6 ∷ []) = omega arith
+bridge (x1 ∷ x2 ∷ x3 ∷ x4 ∷ x5 ∷ x6 ∷ x7 ∷ []) = omega arith
+bridge (x1 ∷ x2 ∷ x3 ∷ x4 ∷ x5 ∷ x6 ∷ x7 ∷ x8 ∷ []) = omega arith
+bridge (x1 ∷ x2 ∷ x3 ∷ x4 ∷ x5 ∷ x6 ∷ x7 ∷ x8 ∷ x9 ∷ []) = omega arith
+bridge (x1 ∷ x2 ∷ x3 ∷ x4 ∷ x5 ∷ x6 ∷ x7 ∷ x8 ∷ x9 ∷ x10 ∷ []) = omega arith
+bridge (x1 ∷ x2 ∷ x3 ∷ x4 ∷ x5 ∷ x6 ∷ x7 ∷ x8 ∷ x9 ∷ x10 ∷ x11 ∷ []) = omega arith
+bridge (x1 ∷ x2 ∷ x3 ∷ x4 ∷ x5 ∷ x6 ∷ x7 ∷ x8 ∷ x9 ∷ x10 ∷ x11 ∷ x12 ∷ []) = omega arith
+bridge (x1 ∷ x2 ∷ x3 ∷ x4 ∷ x5 ∷ x6 ∷ x7 ∷ x8 ∷ x9 ∷ x10 ∷ x11 ∷ x12 ∷ x13 ∷ []) = omega arith
+bridge (x1 ∷ x2 ∷ x3 ∷ x4 ∷ x5 ∷ x6 ∷ x7 ∷ x8 ∷ x9 ∷ x10 ∷ x11 ∷ x12 ∷ x13 ∷ x14 ∷ []) = omega arith
+bridge (x1 ∷ x2 ∷ x3 ∷ x4 ∷ x5 ∷ x6 ∷ x7 ∷ x8 ∷ x9 ∷ x10 ∷ x11 ∷ x12 ∷ x13 ∷ x14 ∷ x15 ∷ []) = omega arith
+bridge (x1 ∷ x2 ∷ x3 ∷ x4 ∷ x5 ∷ x6 ∷ x7 ∷ x8 ∷ x9 ∷ x10 ∷ x11 ∷ x12 ∷ x13 ∷ x14 ∷ x15 ∷ x16 ∷ xs) = omega arith
 
 smaller : (xs ys : List ℕ) → AreBytes xs → AreBytes ys → front_of xs < front_of ys → slice_cmp nat_cmp xs ys ≡ Less
-smaller xs ys all_x all_y lt = decides 8 0 xs ys all_x all_y (subst (λ (m : ℕ). m < fronted 8 0 ys) (bridge xs) (subst (λ (m : ℕ). front_of xs < m) (bridge ys) lt))
+smaller xs ys all_x all_y lt = decides 16 0 xs ys all_x all_y (subst (λ (m : ℕ). m < fronted 16 0 ys) (bridge xs) (subst (λ (m : ℕ). front_of xs < m) (bridge ys) lt))
 
 -- where two keys have different fronts, these decide
 module _ (a b : List ℕ) (all_a : AreBytes a) (all_b : AreBytes b) (differ : front_of a ≢ front_of b) where

@@ -5,3 +5,4 @@ mod Fronts
 mod Ordered
 mod Inserting
 mod Stands
+mod Newest

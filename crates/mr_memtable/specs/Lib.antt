@@ -4,3 +4,4 @@ pub mod Chunks
 pub mod Tables
 pub mod Props
 pub mod Standing
+pub mod Given

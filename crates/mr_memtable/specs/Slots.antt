@@ -15,9 +15,9 @@ part bytes from to = take (to - from) (drop from bytes)
 abbrev pub version_at : List ℕ → Slot → Version
 version_at bytes slot = as_version (part bytes slot.start slot.middle) slot.sequence (cond slot.is_put (Some (part bytes slot.middle slot.end)) None)
 
--- the number in the first 8 bytes of a key, where missing bytes are 0
+-- the number in the first 16 bytes of a key, where missing bytes are 0
 abbrev pub front_of : List ℕ → ℕ
-front_of key = big_number 8 key
+front_of key = big_number 16 key
 
 -- two fronts in a direction
 abbrev pub front_cmp : Direction → ℕ → ℕ → Ordering

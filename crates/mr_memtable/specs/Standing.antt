@@ -1,5 +1,5 @@
 -- Laws of a place among versions in memory.
-use Rattle.std.specs.Prelude.{◌≡◌, ℕ, ◌+◌, ◌-◌, ◌<◌, true, List, [], ◌∷◌, length, drop, refl, is_some, Option}
+use Rattle.std.specs.Prelude.{◌≡◌, ℕ, ◌+◌, ◌-◌, ◌<◌, ◌≤◌, true, List, [], ◌∷◌, length, drop, refl, is_some, Option}
 use Rattle.std.proofs.Common.{sym, ◌∙◌, ap, subst, arith, suc, zero, add-one}
 use Rattle.mr_base.specs.declared.stop.Direction.{Direction}
 use Rattle.mr_iter.specs.Versions.{Version, version_cmp, IsInOrder, first}
@@ -32,6 +32,10 @@ some_below (v ∷ vs) (suc n) is = omega (arith, some_below vs n is)
 
 pub standing_going : (vs : List Version) (n : ℕ) → is_some (first (drop n vs)) ≡ true → 0 < length vs - n
 standing_going vs n is = omega (arith, some_below vs n is)
+
+-- no more steps are left than there are versions
+pub standing_bounded : (vs : List Version) (n : ℕ) → length vs - n ≤ length vs
+standing_bounded vs n = omega arith
 
 -- no file is read
 pub standing_says : (d : Direction) (vs : List Version) (n : ℕ) (i j : Image) → SaysSame (standing_at d vs n) i j

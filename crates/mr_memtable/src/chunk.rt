@@ -25,7 +25,7 @@ fn insert_within<T: Copy>(list: &mut Vec<T>, place: usize, item: T)
 }
 
 /// Moves the second half of a full list of fronts into an empty one.
-fn move_fronts(full: &mut Vec<u64>, empty: &mut Vec<u64>)
+fn move_fronts(full: &mut Vec<u128>, empty: &mut Vec<u128>)
     requires full { vec_len full.old ≡ 256 }
     requires empty { empty.old.items ≡ [] }
     requires fits { 256 ≤ vec_capacity empty.old }
@@ -62,8 +62,8 @@ fn move_slots(full: &mut Vec<Slot>, empty: &mut Vec<Slot>)
 /// side, so that a search touches little memory, and the first of them in the chunk itself.
 #[derive(Drop)]
 pub struct Chunk {
-    pub front: u64,
-    pub fronts: Vec<u64>,
+    pub front: u128,
+    pub fronts: Vec<u128>,
     pub slots: Vec<Slot>,
     ghost fronted: { AreFronts front fronts.items (vec_capacity fronts) slots.items } by { AreFronts-prop front fronts.items (vec_capacity fronts) slots.items },
 }

@@ -1,14 +1,17 @@
 //! A cursor over a memtable.
-ghost use Rattle.std.specs.Prelude.{◌≡◌, ◌<◌, ◌≤◌, ℕ, Some, IsSome, length, get_or};
+ghost use Rattle.std.specs.Prelude.{◌≡◌, ◌<◌, ◌≤◌, ℕ, Some, IsSome, IfSome, length, get_or};
 ghost use Rattle.mr_memtable.specs.Slots.{version_at, Fits};
 ghost use Rattle.mr_memtable.specs.Chunks.{sizes};
+ghost use Rattle.mr_memtable.specs.Given.{version_of};
+ghost use Rattle.mr_iter.specs.Newest.{newest, only_of, is_of};
 ghost use Rattle.mr_memtable.specs.Tables.{IsStanding, flat, standing_at, versions_in};
 ghost use Rattle.mr_memtable.specs.Props.{IsStanding-prop};
-ghost use Rattle.mr_memtable.specs.Standing.{standing_in_order, standing_says, standing_going, standing_in_place, standing_costs, standing_to_end};
+ghost use Rattle.mr_memtable.specs.Standing.{standing_in_order, standing_says, standing_going, standing_bounded, standing_in_place, standing_costs, standing_to_end};
 
 use crate::search::{Place, find};
 use crate::slot::Slot;
 use crate::table::Table;
+use crate::version::VersionRef;
 use mr_base::{Disk, Stop};
 use mr_iter::{Cursor, Listed};
 
@@ -33,12 +36,52 @@ impl<'a> MemCursor<'a> {
         }
     }
 
-    fn slot(&self) -> &Slot
+    /// At the place of a key and a sequence number: the first version that doesn't come before it.
+    pub fn at(table: &'a Table, key: &[u8], number: u64) -> MemCursor<'a>
+        ensures newest { only_of key.now (⟦<MemCursor<'a> as Listed>⟧.cursor result).current ≡ newest number key.now (versions_in table.now.bytes.items table.now.chunks.items) }
+    {
+        let found = find(&table.bytes, &table.chunks, table.direction, key, number);
+        let place = stand(table, found);
+        MemCursor {
+            table,
+            chunk: place.chunk,
+            at: place.at,
+        }
+    }
+
+    /// The version that it stands on.
+    pub fn version(&self) -> VersionRef<'a>
+        requires { IsSome (⟦<MemCursor<'a> as Listed>⟧.cursor self.now).current }
+        ensures { IfSome (⟦<MemCursor<'a> as Listed>⟧.cursor self.now).current (λ v. version_of v.key result ≡ v) }
+    {
+        let table: &'a Table = self.table;
+        let slot = self.slot();
+        VersionRef {
+            sequence: slot.sequence,
+            is_put: slot.is_put,
+            value: if slot.is_put {
+                &table.bytes[slot.middle..slot.end]
+            } else {
+                &[]
+            },
+        }
+    }
+
+    /// Whether the version that it stands on is of this key.
+    pub fn is_on(&self, key: &[u8]) -> bool
+        requires { IsSome (⟦<MemCursor<'a> as Listed>⟧.cursor self.now).current }
+        ensures { IfSome (⟦<MemCursor<'a> as Listed>⟧.cursor self.now).current (λ v. result ≡ is_of key.now v) }
+    {
+        key.cmp(self.key()).is_eq()
+    }
+
+    fn slot(&self) -> &'a Slot
         requires { IsSome (⟦<MemCursor<'a> as Listed>⟧.cursor self.now).current }
         ensures fits { Fits self.now.table.now.bytes.items result.now }
         ensures current { (⟦<MemCursor<'a> as Listed>⟧.cursor self.now).current ≡ Some (version_at self.now.table.now.bytes.items result.now) }
     {
-        &self.table.chunks[self.chunk].slots[self.at]
+        let table: &'a Table = self.table;
+        &table.chunks[self.chunk].slots[self.at]
     }
 }
 
@@ -109,6 +152,8 @@ impl<'a> Listed for MemCursor<'a> {
     ghost to_end = { λ c image k place whole. standing_to_end c.table.now.direction (versions_in c.table.now.bytes.items c.table.now.chunks.items) (flat (sizes c.table.now.chunks.items) c.chunk c.at) image k place };
 
     ghost going = { λ c is. standing_going (versions_in c.table.now.bytes.items c.table.now.chunks.items) (flat (sizes c.table.now.chunks.items) c.chunk c.at) is };
+
+    ghost bounded = { λ c. standing_bounded (versions_in c.table.now.bytes.items c.table.now.chunks.items) (flat (sizes c.table.now.chunks.items) c.chunk c.at) };
 }
 
 impl<'a, D: Disk> Cursor<D> for MemCursor<'a> {

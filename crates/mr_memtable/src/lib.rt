@@ -9,6 +9,8 @@ mod search;
 mod slot;
 mod spare;
 mod table;
+mod version;
 
 pub use cursor::MemCursor;
 pub use memtable::Memtable;
+pub use version::VersionRef;

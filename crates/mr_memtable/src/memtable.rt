@@ -3,10 +3,13 @@ ghost use Rattle.std.specs.Prelude.{◌≡◌, ◌==◌, ℕ, ◌<◌, ◌≤◌
 ghost use Rattle.std.specs.Option.{option_map};
 ghost use Rattle.mr_base.specs.Disk.{Image};
 ghost use Rattle.mr_iter.specs.Versions.{as_version, place_in, version_cmp};
-ghost use Rattle.mr_memtable.specs.Tables.{at_beginning};
+ghost use Rattle.mr_iter.specs.Newest.{newest};
+ghost use Rattle.mr_memtable.specs.Given.{version_given};
+ghost use Rattle.mr_memtable.specs.Tables.{at_beginning, versions_in};
 
 use crate::cursor::MemCursor;
 use crate::table::Table;
+use crate::version::VersionRef;
 use mr_base::{Direction, Memory};
 use mr_iter::Listed;
 use std::alloc::Global;
@@ -24,6 +27,17 @@ impl Model for Memtable {
     ghost Value = { MemState };
 
     ghost view = { λ m. record { direction = m.table.direction; versions = versions_in m.table.bytes.items m.table.chunks.items; entries = m.table.entries; bytes = m.table.free } };
+}
+
+/// The newest version of a key in a table that isn't past a number.
+fn newest_in<'a>(table: &'a Table, key: &[u8], number: u64) -> Option<VersionRef<'a>>
+    ensures { version_given key.now result ≡ newest number key.now (versions_in table.now.bytes.items table.now.chunks.items) }
+{
+    let cursor = MemCursor::at(table, key, number);
+    if cursor.at_end() || !cursor.is_on(key) {
+        return None;
+    }
+    Some(cursor.version())
 }
 
 impl Memtable {
@@ -62,6 +76,13 @@ impl Memtable {
         ensures bytes { self.new.bytes + (length key.now + length (unwrap_or (option_map (λ v. v.now) put.entry) [])) ≡ self.old.bytes }
     {
         self.table.insert(key, sequence, put);
+    }
+
+    /// The newest version of a key that isn't past a number, deletions included. Takes no memory.
+    pub fn newest<'a>(&'a self, key: &[u8], number: u64) -> Option<VersionRef<'a>>
+        ensures { version_given key.now result ≡ newest number key.now self.now.versions }
+    {
+        newest_in(&self.table, key, number)
     }
 
     /// A cursor at the first version.

@@ -15,7 +15,7 @@ fn is_slot_before(
     chunk: &Chunk,
     at: usize,
     direction: Direction,
-    front: u64,
+    front: u128,
     key: &[u8],
     sequence: u64,
 ) -> bool
@@ -36,7 +36,7 @@ pub fn find_in_chunk(
     bytes: &[u8],
     chunk: &Chunk,
     direction: Direction,
-    front: u64,
+    front: u128,
     key: &[u8],
     sequence: u64,
 ) -> usize
@@ -64,7 +64,7 @@ fn is_chunk_before(
     bytes: &[u8],
     chunk: &Chunk,
     direction: Direction,
-    front: u64,
+    front: u128,
     key: &[u8],
     sequence: u64,
 ) -> bool
@@ -85,7 +85,7 @@ fn begins_before(
     chunks: &[Chunk],
     i: usize,
     direction: Direction,
-    front: u64,
+    front: u128,
     key: &[u8],
     sequence: u64,
 ) -> bool
@@ -103,7 +103,7 @@ pub fn find_chunk(
     bytes: &[u8],
     chunks: &[Chunk],
     direction: Direction,
-    front: u64,
+    front: u128,
     key: &[u8],
     sequence: u64,
 ) -> usize

@@ -13,7 +13,7 @@ use mr_iter::compare_keys;
 /// without a look at the key.
 #[derive(Clone, Copy, Drop)]
 pub struct Slot {
-    pub front: u64,
+    pub front: u128,
     pub start: usize,
     pub middle: usize,
     pub end: usize,
@@ -31,12 +31,12 @@ fn byte_at(key: &[u8], at: usize) -> u8
     }
 }
 
-/// The number in the first 8 bytes of a key, where missing bytes are 0. A key with a smaller front is
-/// smaller.
-pub fn front_of(key: &[u8]) -> u64
+/// The number in the first 16 bytes of a key, where missing bytes are 0: an index number and the 12 bytes behind it, which tell
+/// most keys of one table apart. A key with a smaller front is smaller.
+pub fn front_of(key: &[u8]) -> u128
     ensures { result ≡ front_in key.now }
 {
-    BigEndian::read_u64(&[
+    BigEndian::read_u128(&[
         byte_at(key, 0),
         byte_at(key, 1),
         byte_at(key, 2),
@@ -45,6 +45,14 @@ pub fn front_of(key: &[u8]) -> u64
         byte_at(key, 5),
         byte_at(key, 6),
         byte_at(key, 7),
+        byte_at(key, 8),
+        byte_at(key, 9),
+        byte_at(key, 10),
+        byte_at(key, 11),
+        byte_at(key, 12),
+        byte_at(key, 13),
+        byte_at(key, 14),
+        byte_at(key, 15),
     ])
 }
 
@@ -75,7 +83,7 @@ pub fn store(bytes: &mut Vec<u8>, key: &[u8], sequence: u64, put: Option<&[u8]>)
 }
 
 /// Whether the key of the second front stands before that of the first, where they differ.
-pub fn is_front_before(direction: Direction, front: u64, other: u64) -> bool
+pub fn is_front_before(direction: Direction, front: u128, other: u128) -> bool
     ensures { result ≡ is_gt (front_cmp direction front other) }
 {
     match direction {
@@ -89,7 +97,7 @@ pub fn is_before(
     bytes: &[u8],
     slot: &Slot,
     direction: Direction,
-    front: u64,
+    front: u128,
     key: &[u8],
     sequence: u64,
 ) -> bool

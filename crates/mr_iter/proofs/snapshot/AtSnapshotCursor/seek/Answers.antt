@@ -1,11 +1,11 @@
-use Rattle.std.proofs.Common.{◌≡◌, None, true, ◌∙◌, ap}
+use Rattle.std.proofs.Common.{◌≡◌, None, true, false, ◌∙◌, ap}
 use Rattle.mr_iter.specs.Cursors.{left, with_current}
 use Rattle.mr_base.specs.Disk.{Image, seen}
 use Rattle.mr_iter.specs.Snapshots.{shown, key_of, snapshot_state, IsInOrder-shown}
 use Rattle.mr_iter.specs.SnapshotLaws.{snapshot_found, found_place}
 use Rattle.mr_iter.proofs.Runs.{run_stays, run_steady, run_image}
 use Rattle.mr_iter.proofs.SeekLaws.{stop_since}
-use Rattle.mr_iter.proofs.Spent.{run_spent, snapshot_spent}
+use Rattle.mr_iter.proofs.Spent.{run_spent, snapshot_end, snapshot_spent}
 use Rattle.mr_iter.proofs.snapshot.AtSnapshotCursor.seek.Goals as goal
 
 pub returns-in-Ok-settle-clause-whole : goal.returns-in-Ok-settle-clause-whole
@@ -43,5 +43,14 @@ returns-in-Ok-settle-clause-steady g c = λ told is. (
 pub returns-in-Err-settle-clause-spent : goal.returns-in-Err-settle-clause-spent
 returns-in-Err-settle-clause-spent g c = λ told is one.
     snapshot_spent (g.C.Listed.cursor c.args.self.now.inner) (g.C.Listed.cursor c.seek.new.self) (g.C.Listed.cursor c.settle.new.inner) (seen (g.D.Disk.disk c.args.disk.now)) c.args.key.now (g.D.Disk.disk c.args.disk.now) (g.D.Disk.disk c.seek.new.disk) (g.D.Disk.disk c.settle.new.disk) c.seek.ensures.list c.settle.ensures.list c.seek.ensures.counts c.settle.ensures.counts
+    (run_spent g.C.Listed.cursor g.C.Listed.whole g.C.Listed.steady (g.D.Disk.disk c.args.disk.now) (g.D.Disk.disk c.seek.new.disk) (g.D.Disk.disk c.settle.new.disk) c.seek.ensures.counts.tells c.seek.ensures.same c.seek.new.self c.settle.new.inner c.args.key.now (c.in-Err-settle.ensures.spent c.args.key.now)
+    told (c.seek.ensures.whole told is) (c.in-Ok.ensures.steady told is) (c.seek.ensures.list.distinct (seen (g.D.Disk.disk c.args.disk.now)) ∙ one) c.in-Ok.ensures.sought)
+
+pub returns-in-Err-clause-anew : goal.returns-in-Err-clause-anew
+returns-in-Err-clause-anew g c = λ told is one anew. snapshot_end c.args.self.now.number false (g.C.Listed.cursor c.seek.new.self) (seen (g.D.Disk.disk c.args.disk.now)) c.args.key.now (c.in-Err.ensures.anew told is one anew)
+
+pub returns-in-Err-settle-clause-anew : goal.returns-in-Err-settle-clause-anew
+returns-in-Err-settle-clause-anew g c = λ told is one anew.
+    snapshot_end c.args.self.now.number false (g.C.Listed.cursor c.settle.new.inner) (seen (g.D.Disk.disk c.args.disk.now)) c.args.key.now
     (run_spent g.C.Listed.cursor g.C.Listed.whole g.C.Listed.steady (g.D.Disk.disk c.args.disk.now) (g.D.Disk.disk c.seek.new.disk) (g.D.Disk.disk c.settle.new.disk) c.seek.ensures.counts.tells c.seek.ensures.same c.seek.new.self c.settle.new.inner c.args.key.now (c.in-Err-settle.ensures.spent c.args.key.now)
     told (c.seek.ensures.whole told is) (c.in-Ok.ensures.steady told is) (c.seek.ensures.list.distinct (seen (g.D.Disk.disk c.args.disk.now)) ∙ one) c.in-Ok.ensures.sought)
