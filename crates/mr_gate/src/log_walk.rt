@@ -77,6 +77,7 @@ impl LogWalk {
         ensures near { self.new.window.start ≤ self.new.place }
         ensures file { (self.new.file ≡ self.old.file) × (self.new.length ≡ self.old.length) }
         ensures ahead { IfOk result (λ o. IfSome o (λ r. (r.0 ≡ self.old.place) × (self.new.place ≡ self.old.place + (5 + length r.1)) × (self.new.place < self.old.length))) }
+        ensures fits { IfOk result (λ o. IfSome o (λ r. r.0 + 5 + length r.1 < 2 ^ 64)) }
         ensures within { Tells (D.disk disk.old) → self.new.place ≤ end_from self.old.place (file_of (D.disk disk.old) self.old.file).bytes }
         ensures walks { Tells (D.disk disk.old) → OnOk result (Walks self.new (file_of (D.disk disk.old) self.old.file).bytes) }
         ensures step { Tells (D.disk disk.old) → IfOk result (IsStep self.old self.new (file_of (D.disk disk.old) self.old.file).bytes) }
