@@ -1,0 +1,4 @@
+mod FieldLaws
+mod Decoding
+mod WritingLaws
+mod SumLaws
