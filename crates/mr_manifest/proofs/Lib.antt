@@ -2,3 +2,4 @@ mod FieldLaws
 mod Decoding
 mod WritingLaws
 mod SumLaws
+mod OpenLaws

@@ -11,7 +11,7 @@ use Rattle.mr_manifest.specs.declared.edit.Edit.TheVariants.{RunAdded, RunDroppe
 use Rattle.mr_manifest.specs.declared.live.Live.{Live}
 use Rattle.mr_manifest.specs.declared.sum.Sum.{Sum}
 use Rattle.mr_manifest.specs.Fields.{◌>>=◌}
-use Rattle.mr_manifest.specs.Edits.{edits_bytes, read_edits}
+use Rattle.mr_manifest.specs.Edits.{edits_size, read_edits}
 use Rattle.mr_manifest.specs.Live.{no_live, live_after}
 use Rattle.mr_manifest.specs.Rule.{numbers_fit}
 
@@ -125,7 +125,7 @@ pub record Opened : Type 0 where
 
 -- after these edits, and after a call that stopped
 abbrev pub with_edits : Opened → List Edit → Opened
-with_edits m es = record { gate = appended m.gate (length (edits_bytes es)); live = live_after es m.live }
+with_edits m es = record { gate = appended m.gate (edits_size es); live = live_after es m.live }
 
 abbrev pub stopped : Opened → Opened
 stopped m = record { gate = closed m.gate; live = m.live }
@@ -169,7 +169,10 @@ no_numbers m = Full File m.live.next_file (2 ^ 63)
 
 -- the answers that come before anything is written, each where it has to: the first is that there are no numbers left
 abbrev pub IsRefusal : Opened → List Edit → Stop → Type 0
-IsRefusal m es stop = ((stop ≡ no_numbers m) × HasNoNumbers m es) ⊎ ((HasNoNumbers m es → ⊥) × (((stop ≡ full m.gate) × HasNoRoom m.gate (length (edits_bytes es))) ⊎ ((HasNoRoom m.gate (length (edits_bytes es)) → ⊥) × (stop ≡ Memory))))
+IsRefusal m es stop = ((stop ≡ no_numbers m) × HasNoNumbers m es) ⊎ ((HasNoNumbers m es → ⊥) × (((stop ≡ full m.gate) × HasNoRoom m.gate (edits_size es)) ⊎ ((HasNoRoom m.gate (edits_size es) → ⊥) × (stop ≡ Memory))))
+
+abbrev pub IsAllowed : Opened → List Edit → Type 0
+IsAllowed m es = (HasNoNumbers m es → ⊥) × (HasNoRoom m.gate (edits_size es) → ⊥) × (edits_size es ≤ 2 ^ 29)
 
 -- what a walk over all records reads
 pub record WalkReads (bytes : ℕ) (old new : State) : Type 0 where
