@@ -87,3 +87,10 @@ reaches_next end at next body file reaches is = omega (arith, reaches, ap span i
 
 pub reaches_none : (end at : ℕ) (file : List ℕ) → Reaches end at file → IsNext at file None → at ≡ end
 reaches_none end at file reaches is = omega (arith, reaches, ap span is)
+
+-- behind a record the end is the same, and so is what stands there
+pub end_behind : (at next : ℕ) (body file : List ℕ) → records_from at file ≡ body ∷ records_from next file → next ≡ at + (5 + length body) → end_from at file ≡ end_from next file
+end_behind at next body file is place = omega (arith, ap span is, place)
+
+pub damage_behind : (at next : ℕ) (body file : List ℕ) → records_from at file ≡ body ∷ records_from next file → next ≡ at + (5 + length body) → is_damaged_from at file ≡ is_damaged_from next file
+damage_behind at next body file is place = ap (λ n. is_bad_end n (drop n file)) (end_behind at next body file is place)

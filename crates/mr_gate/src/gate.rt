@@ -158,6 +158,13 @@ impl GateLog {
         record_at(alloc, disk, self.file, self.end, at)
     }
 
+    /// Closes it, as a call that stopped does.
+    pub fn close(&mut self)
+        ensures { self.new ≡ closed self.old }
+    {
+        self.is_open = false;
+    }
+
     /// How many records there are from the first place on.
     pub fn records(&self) -> u64
         ensures records { result ≡ self.now.records }

@@ -4,7 +4,10 @@
 mod appending;
 mod frame;
 mod gate;
+mod log_walk;
 mod opening;
 mod reading;
+mod window;
 
 pub use gate::GateLog;
+pub use log_walk::LogWalk;

@@ -9,7 +9,7 @@ use mr_base::{Blob, Disk, Stop};
 use std::alloc::Global;
 
 /// So many bytes of a file, None where it is too short.
-fn bytes_at<D: Disk>(
+pub(crate) fn bytes_at<D: Disk>(
     alloc: Global,
     disk: &mut D,
     file: u64,

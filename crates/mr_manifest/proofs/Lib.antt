@@ -1,0 +1,5 @@
+mod FieldLaws
+mod Decoding
+mod WritingLaws
+mod SumLaws
+mod OpenLaws
