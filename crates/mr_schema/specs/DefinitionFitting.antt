@@ -8,7 +8,7 @@ use Rattle.mr_types.specs.declared.kind.Kind.TheVariants.{VarChar, VarBinary}
 use Rattle.mr_types.specs.declared.definition.ColumnDef.{ColumnDef}
 use Rattle.mr_types.specs.declared.definition.IndexDef.{IndexDef}
 use Rattle.mr_types.specs.declared.definition.TableDef.{TableDef}
-use Rattle.mr_fields.specs.Fitting.{NameFits, TextFits, ValueFits}
+use Rattle.mr_fields.specs.Fitting.{NameFits, TextFits, ValueFits, ValueHasPlace}
 use Rattle.mr_schema.specs.DefinitionForm.{ttl_said}
 
 abbrev pub KindFits : Kind → Type 0
@@ -51,3 +51,32 @@ pub record DefinitionFits (def : TableDef) : Type 0 where
   pub secondary : AllByRecursion (KeyFits (length def.columns)) def.secondary
   pub comment : TextFits def.comment
   pub ttl : ttl_said def.columns def.comment ≡ Ok def.ttl
+
+-- ---- definitions whose numbers and lengths are in their fields
+
+abbrev pub DefaultHasPlace : Option Value → Type 0
+DefaultHasPlace None = ⊤
+DefaultHasPlace (Some v) = ValueHasPlace v
+
+pub record ColumnHasPlace (c : ColumnDef) : Type 0 where
+  pub name : length c.name < 2 ^ 8
+  pub default : DefaultHasPlace c.default
+
+-- a primary key is written without its name
+pub record PrimaryHasPlace (key : IndexDef) : Type 0 where
+  pub columns : length key.columns < 2 ^ 8
+  pub comment : length key.comment < 2 ^ 16
+
+pub record KeyHasPlace (key : IndexDef) : Type 0 where
+  pub name : length key.name < 2 ^ 8
+  pub columns : length key.columns < 2 ^ 8
+  pub comment : length key.comment < 2 ^ 16
+
+pub record DefinitionHasPlace (def : TableDef) : Type 0 where
+  pub name : length def.name < 2 ^ 8
+  pub column_count : length def.columns < 2 ^ 8
+  pub columns : AllByRecursion ColumnHasPlace def.columns
+  pub primary : PrimaryHasPlace def.primary
+  pub key_count : length def.secondary < 2 ^ 8
+  pub secondary : AllByRecursion KeyHasPlace def.secondary
+  pub comment : length def.comment < 2 ^ 16

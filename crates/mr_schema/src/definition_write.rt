@@ -18,11 +18,12 @@
 //!     01 'v' 03 00 00 00 01 01 00
 //!     01 00 00 00 00 00 00
 
-ghost use Rattle.std.specs.Prelude.{◌≡◌, ◌++◌, ◌∷◌, [], IfOk, OnOk, Ok};
+ghost use Rattle.std.specs.Prelude.{◌≡◌, ◌<◌, ◌^◌, ◌++◌, ◌∷◌, [], length, IfOk, OnOk, Ok};
+ghost use Rattle.std.specs.List.{AllByRecursion};
 ghost use Rattle.byteorder.specs.Endian.{big_bytes};
 ghost use Rattle.mr_fields.specs.Fields.{listed_bytes};
 ghost use Rattle.mr_schema.specs.DefinitionForm.{kind_bytes, collation_byte, default_bytes, column_bytes, counted_bytes, places_bytes, primary_bytes, key_bytes, definition_bytes, reads_definition};
-ghost use Rattle.mr_schema.specs.DefinitionFitting.{DefinitionFits};
+ghost use Rattle.mr_schema.specs.DefinitionFitting.{DefinitionFits, DefaultHasPlace, ColumnHasPlace, PrimaryHasPlace, KeyHasPlace, DefinitionHasPlace};
 
 use mr_base::{Blob, Memory};
 use mr_fields::{
@@ -64,7 +65,8 @@ fn write_kind(out: &mut Vec<u8>, kind: Kind) -> Result<(), Memory>
 }
 
 fn write_default(out: &mut Vec<u8>, default: &Option<Value>) -> Result<(), Memory>
-    ensures { OnOk result (out.new.items ≡ out.old.items ++ default_bytes default.now) }
+    ensures written { OnOk result (out.new.items ≡ out.old.items ++ default_bytes default.now) }
+    ensures place { OnOk result (DefaultHasPlace default.now) }
 {
     match default {
         None => write_byte(out, 0),
@@ -76,7 +78,8 @@ fn write_default(out: &mut Vec<u8>, default: &Option<Value>) -> Result<(), Memor
 }
 
 fn write_column(out: &mut Vec<u8>, column: &ColumnDef) -> Result<(), Memory>
-    ensures { OnOk result (out.new.items ≡ out.old.items ++ column_bytes column.now) }
+    ensures written { OnOk result (out.new.items ≡ out.old.items ++ column_bytes column.now) }
+    ensures place { OnOk result (ColumnHasPlace column.now) }
 {
     write_name(out, column.name.as_slice())?;
     write_kind(out, column.ty.kind)?;
@@ -85,7 +88,8 @@ fn write_column(out: &mut Vec<u8>, column: &ColumnDef) -> Result<(), Memory>
 }
 
 fn write_each_column(out: &mut Vec<u8>, columns: &[ColumnDef]) -> Result<(), Memory>
-    ensures { OnOk result (out.new.items ≡ out.old.items ++ listed_bytes column_bytes columns.now) }
+    ensures written { OnOk result (out.new.items ≡ out.old.items ++ listed_bytes column_bytes columns.now) }
+    ensures place { OnOk result (AllByRecursion ColumnHasPlace columns.now) }
 {
     'writing: for column in columns {
         write_column(out, column)?;
@@ -94,21 +98,25 @@ fn write_each_column(out: &mut Vec<u8>, columns: &[ColumnDef]) -> Result<(), Mem
 }
 
 fn write_columns(out: &mut Vec<u8>, columns: &[ColumnDef]) -> Result<(), Memory>
-    ensures { OnOk result (out.new.items ≡ out.old.items ++ counted_bytes column_bytes columns.now) }
+    ensures written { OnOk result (out.new.items ≡ out.old.items ++ counted_bytes column_bytes columns.now) }
+    ensures count { OnOk result (length columns.now < 2 ^ 8) }
+    ensures place { OnOk result (AllByRecursion ColumnHasPlace columns.now) }
 {
     write_count(out, columns.len())?;
     write_each_column(out, columns)
 }
 
 fn write_places(out: &mut Vec<u8>, places: &[u8]) -> Result<(), Memory>
-    ensures { OnOk result (out.new.items ≡ out.old.items ++ places_bytes places.now) }
+    ensures written { OnOk result (out.new.items ≡ out.old.items ++ places_bytes places.now) }
+    ensures place { OnOk result (length places.now < 2 ^ 8) }
 {
     write_count(out, places.len())?;
     write_bytes(out, places)
 }
 
 fn write_primary(out: &mut Vec<u8>, key: &IndexDef) -> Result<(), Memory>
-    ensures { OnOk result (out.new.items ≡ out.old.items ++ primary_bytes key.now) }
+    ensures written { OnOk result (out.new.items ≡ out.old.items ++ primary_bytes key.now) }
+    ensures place { OnOk result (PrimaryHasPlace key.now) }
 {
     write_places(out, key.columns.as_slice())?;
     write_text16(out, key.comment.as_slice())
@@ -117,7 +125,8 @@ fn write_primary(out: &mut Vec<u8>, key: &IndexDef) -> Result<(), Memory>
 /// Adds a secondary key. Takes memory. A length that has no place in its field is answered as want
 /// of memory.
 pub fn write_key(out: &mut Vec<u8>, key: &IndexDef) -> Result<(), Memory>
-    ensures { OnOk result (out.new.items ≡ out.old.items ++ key_bytes key.now) }
+    ensures written { OnOk result (out.new.items ≡ out.old.items ++ key_bytes key.now) }
+    ensures place { OnOk result (KeyHasPlace key.now) }
 {
     write_name(out, key.name.as_slice())?;
     write_flag(out, key.unique)?;
@@ -125,7 +134,8 @@ pub fn write_key(out: &mut Vec<u8>, key: &IndexDef) -> Result<(), Memory>
 }
 
 fn write_each_key(out: &mut Vec<u8>, keys: &[IndexDef]) -> Result<(), Memory>
-    ensures { OnOk result (out.new.items ≡ out.old.items ++ listed_bytes key_bytes keys.now) }
+    ensures written { OnOk result (out.new.items ≡ out.old.items ++ listed_bytes key_bytes keys.now) }
+    ensures place { OnOk result (AllByRecursion KeyHasPlace keys.now) }
 {
     'writing: for key in keys {
         write_key(out, key)?;
@@ -134,7 +144,9 @@ fn write_each_key(out: &mut Vec<u8>, keys: &[IndexDef]) -> Result<(), Memory>
 }
 
 fn write_keys(out: &mut Vec<u8>, keys: &[IndexDef]) -> Result<(), Memory>
-    ensures { OnOk result (out.new.items ≡ out.old.items ++ counted_bytes key_bytes keys.now) }
+    ensures written { OnOk result (out.new.items ≡ out.old.items ++ counted_bytes key_bytes keys.now) }
+    ensures count { OnOk result (length keys.now < 2 ^ 8) }
+    ensures place { OnOk result (AllByRecursion KeyHasPlace keys.now) }
 {
     write_count(out, keys.len())?;
     write_each_key(out, keys)
@@ -143,7 +155,8 @@ fn write_keys(out: &mut Vec<u8>, keys: &[IndexDef]) -> Result<(), Memory>
 /// Adds a definition. Takes memory. A length that has no place in its field, and a number that isn't
 /// from -2^63 to 2^64 - 1, are answered as want of memory.
 pub fn write_definition(out: &mut Vec<u8>, def: &TableDef) -> Result<(), Memory>
-    ensures { OnOk result (out.new.items ≡ out.old.items ++ definition_bytes def.now) }
+    ensures written { OnOk result (out.new.items ≡ out.old.items ++ definition_bytes def.now) }
+    ensures place { OnOk result (DefinitionHasPlace def.now) }
 {
     write_name(out, def.name.as_slice())?;
     write_columns(out, def.columns.as_slice())?;
@@ -155,6 +168,7 @@ pub fn write_definition(out: &mut Vec<u8>, def: &TableDef) -> Result<(), Memory>
 /// The bytes of a definition. Takes memory, as `write_definition` does.
 pub fn write_def(alloc: Global, def: &TableDef) -> Result<Blob, Memory>
     ensures written { IfOk result (λ b. b ≡ definition_bytes def.now) }
+    ensures place { OnOk result (DefinitionHasPlace def.now) }
     ensures reads_back { DefinitionFits def.now → IfOk result (λ b. reads_definition b ≡ Ok def.now) }
 {
     let mut out = Vec::new(alloc);
