@@ -1,5 +1,5 @@
 -- What an opening keeps of a manifest.
-use Rattle.std.proofs.Common.{◌≡◌, ◌⊎◌, inl, inr, ⊎_elim, ℕ, ◌+◌, [], ◌∷◌, ◌++◌, length, arith, Bool, true, false, cond, List, refl, sym, ◌∙◌, ap, subst, Some, None, Result, Ok, Err}
+use Rattle.std.proofs.Common.{◌≡◌, inl, inr, ⊎_elim, ℕ, ◌+◌, [], ◌∷◌, ◌++◌, length, arith, Bool, true, false, cond, List, refl, sym, ◌∙◌, ap, subst, Some, None, Result, Ok, Err}
 use Rattle.mr_base.specs.Disk.{State, File, file_of, present, IsAtRest}
 use Rattle.mr_base.specs.Calls.{Same, During, OneFile}
 use Rattle.mr_base.proofs.Moments.{begins, then_same, then_run, same_file, file_weaker}

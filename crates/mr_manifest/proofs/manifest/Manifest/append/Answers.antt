@@ -1,4 +1,4 @@
-use Rattle.std.proofs.Common.{◌≡◌, ◌⊎◌, inl, inr, ⊎_elim, ℕ, ◌+◌, List, length, false, sym, ◌∙◌, ap, subst, arith}
+use Rattle.std.proofs.Common.{◌≡◌, ◌⊎◌, inl, ⊎_elim, ℕ, List, length, false, sym, ◌∙◌, ap, subst, arith}
 use Rattle.mr_base.specs.Disk.{file_of, present, IsAtRest}
 use Rattle.mr_base.specs.Calls.{During, OneFile}
 use Rattle.mr_base.specs.declared.stop.Stop.TheVariants as stop
