@@ -3,3 +3,4 @@ mod Decoding
 mod WritingLaws
 mod SumLaws
 mod OpenLaws
+mod Worked

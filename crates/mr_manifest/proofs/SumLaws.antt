@@ -4,11 +4,10 @@ use Rattle.mr_base.specs.declared.stop.Stop.{Stop}
 use Rattle.mr_base.specs.declared.stop.Stop.TheVariants as stop
 use Rattle.mr_gate.specs.Log.{records_from, end_from, is_damaged_from}
 use Rattle.mr_manifest.specs.declared.edit.Edit.{Edit}
-use Rattle.mr_manifest.specs.declared.live.Live.{Live}
 use Rattle.mr_manifest.specs.declared.sum.Sum.{Sum}
 use Rattle.mr_manifest.specs.Fields.{◌>>=◌}
 use Rattle.mr_manifest.specs.Edits.{read_edits}
-use Rattle.mr_manifest.specs.Manifest.{in_front, records_in, manifest_of, no_records, one_more, sum_of, breach, one_body, step, sum_from, state, judged, sum_of_file, IsOffence, IsManifest, IsDamagedAt, IsManifestDamage}
+use Rattle.mr_manifest.specs.Manifest.{in_front, records_in, manifest_of, no_records, one_more, sum_of, breach, one_body, sum_from, state, judged, sum_of_file, IsOffence, IsManifest, IsDamagedAt, IsManifestDamage}
 
 abbrev pub folds : Sum → Result (List (ℕ × List Edit)) ℕ → Result Sum ℕ
 folds s (Ok rs) = Ok (sum_of s rs)

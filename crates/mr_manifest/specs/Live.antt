@@ -1,5 +1,5 @@
 -- What edits add up to.
-use Rattle.std.specs.Prelude.{ℕ, ◌==◌, Bool, List, [], ◌∷◌, ◌++◌, if◌then◌else◌, Option, Some, None}
+use Rattle.std.specs.Prelude.{ℕ, ◌==◌, List, [], ◌∷◌, ◌++◌, if◌then◌else◌}
 use Rattle.mr_manifest.specs.declared.edit.Edit.{Edit}
 use Rattle.mr_manifest.specs.declared.edit.Edit.TheVariants.{RunAdded, RunDropped, LiveLog, BinlogPlace, NextFile, LastSequence, Format}
 use Rattle.mr_manifest.specs.declared.live.Live.{Live}

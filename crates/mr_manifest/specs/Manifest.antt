@@ -1,10 +1,10 @@
 -- The records of a manifest, what they add up to, and where it is damaged.
-use Rattle.std.specs.Prelude.{◌≡◌, ◌⊎◌, ℕ, ◌+◌, ◌*◌, ◌≤◌, ◌<◌, ◌^◌, Bool, true, false, List, [], ◌∷◌, ◌++◌, length, if◌then◌else◌, Option, Some, None, Result, Ok, Err}
+use Rattle.std.specs.Prelude.{◌≡◌, ◌⊎◌, ℕ, ◌+◌, ◌*◌, ◌≤◌, ◌<◌, ◌^◌, List, [], ◌∷◌, ◌++◌, length, if◌then◌else◌, Option, Some, None, Result, Ok, Err}
 use Rattle.mr_base.specs.Disk.{State}
 use Rattle.mr_base.specs.declared.stop.Stop.{Stop}
 use Rattle.mr_base.specs.declared.stop.Stop.TheVariants.{Memory, Full, Damaged}
 use Rattle.mr_base.specs.declared.stop.FullKind.TheVariants.{File}
-use Rattle.mr_gate.specs.Log.{records_from, end_from, is_damaged_from, span}
+use Rattle.mr_gate.specs.Log.{records_from, end_from, is_damaged_from}
 use Rattle.mr_gate.specs.Gate.{Gate, Stands, HasNoRoom, appended, closed, full}
 use Rattle.mr_manifest.specs.declared.edit.Edit.{Edit}
 use Rattle.mr_manifest.specs.declared.edit.Edit.TheVariants.{RunAdded, RunDropped, LiveLog, BinlogPlace, NextFile, LastSequence, Format}

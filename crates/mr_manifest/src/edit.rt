@@ -1,5 +1,8 @@
 //! What a record of the manifest changes.
 
+ghost use Rattle.std.specs.Prelude.{◌≡◌};
+ghost use Rattle.mr_manifest.specs.Edits.{first_record as first};
+
 use sqlite_items::Items;
 
 /// The greatest level of a run.
@@ -42,3 +45,19 @@ pub enum Edit {
 
 /// The edits of a record, in order.
 pub type EditList = Items<Edit>;
+
+/// The edits of the first record of a folder.
+pub fn first_record() -> [Edit; 5]
+    ensures { result ≡ first }
+{
+    [
+        Edit::Format(FORMAT),
+        Edit::LiveLog(16),
+        Edit::BinlogPlace {
+            place: 0,
+            commits: 0,
+        },
+        Edit::NextFile(17),
+        Edit::LastSequence(0),
+    ]
+}

@@ -12,7 +12,7 @@ mod rule;
 mod stop;
 mod sum;
 
-pub use edit::{Edit, EditList};
+pub use edit::{Edit, EditList, first_record};
 pub use edit_read::read_edits;
 pub use edit_write::write_edits;
 pub use live::{Live, LiveRun, LiveRunList};

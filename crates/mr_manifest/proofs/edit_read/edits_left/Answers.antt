@@ -1,4 +1,4 @@
-use Rattle.std.proofs.Common.{◌≡◌, ◌+◌, ◌-◌, ◌∷◌, ◌++◌, [], List, length, ◌∙◌, ap, sym}
+use Rattle.std.proofs.Common.{◌+◌, ◌-◌, List, length, ◌∙◌, ap, sym}
 use Rattle.mr_manifest.specs.declared.edit.Edit.{Edit}
 use Rattle.mr_manifest.specs.Edits.{edits_in}
 use Rattle.mr_manifest.specs.Given.{with_front}

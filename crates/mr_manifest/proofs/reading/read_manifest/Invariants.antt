@@ -1,4 +1,4 @@
-use Rattle.std.proofs.Common.{◌≡◌, ◌≤◌, ◌<◌, ◌+◌, ◌*◌, ◌-◌}
+use Rattle.std.proofs.Common.{◌≡◌, ◌≤◌, ◌+◌, ◌*◌, ◌-◌}
 use Rattle.mr_base.specs.Disk.{Tells, file_of}
 use Rattle.mr_base.specs.Calls.{Same, Rises}
 use Rattle.mr_gate.specs.Log.{records_from, end_from, is_damaged_from}
