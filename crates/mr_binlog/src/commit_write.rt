@@ -14,17 +14,18 @@
 //!     00 00 00 00 00 00 00 07 00   00 00 00 01   01 01 't'
 //!     00 02   01 00 00 00 00 00 00 00 01   01 00 00 00 00 00 00 00 02
 
-ghost use Rattle.std.specs.Prelude.{◌≡◌, ◌++◌, IfOk, OnOk, Ok};
+ghost use Rattle.std.specs.Prelude.{◌≡◌, ◌<◌, ◌^◌, ◌++◌, IfOk, OnOk, Ok};
 ghost use Rattle.std.specs.List.{AllByRecursion};
 ghost use Rattle.byteorder.specs.Endian.{big_bytes};
 ghost use Rattle.mr_fields.specs.Fields.{name_bytes, listed_bytes};
-ghost use Rattle.mr_fields.specs.Fitting.{GivenFits};
+ghost use Rattle.mr_fields.specs.Fitting.{GivenFits, RowHasPlace};
 ghost use Rattle.mr_spec.specs.RowForm.{row_bytes};
 ghost use Rattle.mr_spec.specs.Rows.{rows_of};
 ghost use Rattle.mr_spec.specs.Database.{changes_in};
 ghost use Rattle.mr_schema.specs.DefinitionForm.{key_bytes};
+ghost use Rattle.mr_schema.specs.DefinitionFitting.{KeyHasPlace};
 ghost use Rattle.mr_binlog.specs.CommitForm.{change_bytes, schema_bytes, body_bytes, commit_bytes, reads_commit};
-ghost use Rattle.mr_binlog.specs.CommitFitting.{CommitFits, HasSmallNumbers, NumbersFit};
+ghost use Rattle.mr_binlog.specs.CommitFitting.{CommitFits, HasSmallNumbers, NumbersFit, NameHasPlace, ChangeHasPlace, SchemaHasPlace, BodyHasPlace};
 
 use mr_base::{Blob, Memory};
 use mr_fields::{write_byte, write_name, write_row, write_u32, write_u64};
@@ -51,6 +52,7 @@ fn has_small_numbers(row: &Row)
 
 fn write_named_row(out: &mut Vec<u8>, table: &Blob, row: &Row) -> Result<(), Memory>
     ensures written { OnOk result (out.new.items ≡ out.old.items ++ (name_bytes table.now ++ row_bytes row.now)) }
+    ensures place { OnOk result (NameHasPlace table.now × RowHasPlace row.now) }
     ensures numbers { OnOk result (HasSmallNumbers row.now) }
 {
     has_small_numbers(row);
@@ -60,6 +62,7 @@ fn write_named_row(out: &mut Vec<u8>, table: &Blob, row: &Row) -> Result<(), Mem
 
 fn write_change(out: &mut Vec<u8>, change: &Change) -> Result<(), Memory>
     ensures written { OnOk result (out.new.items ≡ out.old.items ++ change_bytes change.now) }
+    ensures place { OnOk result (ChangeHasPlace change.now) }
     ensures numbers { OnOk result (AllByRecursion HasSmallNumbers (rows_of change.now)) }
 {
     match change {
@@ -82,6 +85,7 @@ fn write_change(out: &mut Vec<u8>, change: &Change) -> Result<(), Memory>
 
 fn write_each_change(out: &mut Vec<u8>, changes: &[Change]) -> Result<(), Memory>
     ensures written { OnOk result (out.new.items ≡ out.old.items ++ listed_bytes change_bytes changes.now) }
+    ensures place { OnOk result (AllByRecursion ChangeHasPlace changes.now) }
     ensures numbers { OnOk result (AllByRecursion (λ change. AllByRecursion HasSmallNumbers (rows_of change)) changes.now) }
 {
     'writing: for change in changes {
@@ -92,7 +96,8 @@ fn write_each_change(out: &mut Vec<u8>, changes: &[Change]) -> Result<(), Memory
 
 /// How many changes there are, as a number of four bytes.
 fn write_change_count(out: &mut Vec<u8>, count: usize) -> Result<(), Memory>
-    ensures { OnOk result (out.new.items ≡ out.old.items ++ big_bytes 4 count) }
+    ensures written { OnOk result (out.new.items ≡ out.old.items ++ big_bytes 4 count) }
+    ensures place { OnOk result (count < 2 ^ 32) }
 {
     match u32::try_from(count) {
         Ok(number) => write_u32(out, number),
@@ -101,21 +106,24 @@ fn write_change_count(out: &mut Vec<u8>, count: usize) -> Result<(), Memory>
 }
 
 fn write_create_index(out: &mut Vec<u8>, table: &Blob, key: &IndexDef) -> Result<(), Memory>
-    ensures { OnOk result (out.new.items ≡ out.old.items ++ (name_bytes table.now ++ key_bytes key.now)) }
+    ensures written { OnOk result (out.new.items ≡ out.old.items ++ (name_bytes table.now ++ key_bytes key.now)) }
+    ensures place { OnOk result (NameHasPlace table.now × KeyHasPlace key.now) }
 {
     write_name(out, table.as_slice())?;
     write_key(out, key)
 }
 
 fn write_drop_index(out: &mut Vec<u8>, table: &Blob, key: &Blob) -> Result<(), Memory>
-    ensures { OnOk result (out.new.items ≡ out.old.items ++ (name_bytes table.now ++ name_bytes key.now)) }
+    ensures written { OnOk result (out.new.items ≡ out.old.items ++ (name_bytes table.now ++ name_bytes key.now)) }
+    ensures place { OnOk result (NameHasPlace table.now × NameHasPlace key.now) }
 {
     write_name(out, table.as_slice())?;
     write_name(out, key.as_slice())
 }
 
 fn write_schema(out: &mut Vec<u8>, change: &Schema) -> Result<(), Memory>
-    ensures { OnOk result (out.new.items ≡ out.old.items ++ schema_bytes change.now) }
+    ensures written { OnOk result (out.new.items ≡ out.old.items ++ schema_bytes change.now) }
+    ensures place { OnOk result (SchemaHasPlace change.now) }
 {
     match change {
         Schema::CreateTable(def) => {
@@ -139,6 +147,7 @@ fn write_schema(out: &mut Vec<u8>, change: &Schema) -> Result<(), Memory>
 
 fn write_body(out: &mut Vec<u8>, body: &CommitBody) -> Result<(), Memory>
     ensures written { OnOk result (out.new.items ≡ out.old.items ++ body_bytes body.now) }
+    ensures place { OnOk result (BodyHasPlace body.now) }
     ensures numbers { OnOk result (AllByRecursion (λ change. AllByRecursion HasSmallNumbers (rows_of change)) (changes_in body.now)) }
 {
     match body {
@@ -155,6 +164,7 @@ fn write_body(out: &mut Vec<u8>, body: &CommitBody) -> Result<(), Memory>
 /// isn't from -2^63 to 2^64 - 1, are answered as want of memory.
 pub fn write_commit(alloc: Global, commit: &Commit) -> Result<Blob, Memory>
     ensures written { IfOk result (λ b. b ≡ commit_bytes commit.now) }
+    ensures place { OnOk result (BodyHasPlace commit.now.body) }
     ensures reads_back { CommitFits commit.now → IfOk result (λ b. reads_commit b ≡ Ok commit.now) }
     ensures numbers { OnOk result (NumbersFit commit.now) }
 {
