@@ -1,5 +1,5 @@
 -- The newest version of a key in a block.
-use Rattle.std.proofs.Common.{◌≡◌, ℕ, ◌-◌, ◌<◌, ◌≤◌, true, false, List, [], ◌∷◌, length, get_or, drop, suc, zero, Option, Some, None, refl, sym, ◌∙◌, ap, subst, arith}
+use Rattle.std.proofs.Common.{◌≡◌, ℕ, ◌-◌, ◌<◌, ◌≤◌, true, false, List, [], ◌∷◌, length, get_or, drop, suc, zero, Some, None, refl, sym, ◌∙◌, ap, arith}
 use Rattle.std.specs.Ordering.{is_gt}
 use Rattle.mr_base.specs.declared.stop.Direction.{Direction}
 use Rattle.mr_iter.specs.Versions.{Version, as_version, version_cmp, IsInOrder, first}

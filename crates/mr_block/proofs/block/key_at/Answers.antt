@@ -1,6 +1,6 @@
 use Rattle.std.proofs.Common.{◌≡◌, ◌+◌, ◌*◌, ℕ, drop, get_or, ◌∙◌, ap, arith}
 use Rattle.byteorder.specs.Endian.{big_number}
-use Rattle.mr_block.specs.Block.{block_in, list_of, key_in, entry_in, no_version}
+use Rattle.mr_block.specs.Block.{block_in, list_of, key_in, no_version}
 use Rattle.mr_block.proofs.FieldLaws.{all_bytes}
 use Rattle.mr_block.proofs.Blocks.{block_only}
 use Rattle.mr_block.proofs.EntryLaws.{key_front, same_key, no_key}

@@ -1,4 +1,4 @@
-use Rattle.std.proofs.Common.{◌≡◌, ◌<◌, ◌^◌, ◌∷◌, [], List, ℕ, length, unwrap_or, ◌∙◌, ap, arith, rules}
+use Rattle.std.proofs.Common.{◌≡◌, ◌<◌, ◌^◌, ◌∷◌, [], length, unwrap_or, ◌∙◌, ap, arith, rules}
 use Rattle.std.specs.Option.{option_map}
 use Rattle.mr_iter.specs.Versions.{as_version}
 use Rattle.mr_block.specs.Block.{block_bytes, block_in}

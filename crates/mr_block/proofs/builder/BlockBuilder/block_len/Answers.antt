@@ -1,4 +1,4 @@
-use Rattle.std.proofs.Common.{◌≡◌, ◌<◌, ◌+◌, ◌*◌, ℕ, List, length, ap, arith}
+use Rattle.std.proofs.Common.{List, length, ap, arith}
 use Rattle.mr_iter.specs.Versions.{Version}
 use Rattle.mr_block.specs.Block.{block_bytes}
 use Rattle.mr_block.specs.Built.{versions_in}
