@@ -1,7 +1,7 @@
 //! Worked definitions: each refusal, and what passes just beside it.
 
 use mr_base::{Blob, Memory};
-use mr_schema::{CommentOptions, check};
+use mr_schema::{CommentOptions, check, check_key};
 use mr_types::{Collation, ColumnText, KeyText, KindText, Refused, TableDef, TableText, Value};
 use sqlite_items::Items;
 use std::alloc::Global;
@@ -21,12 +21,7 @@ fn digits(number: u8) -> [u8; 2] {
 }
 
 /// A table of so many nullable columns of one kind, named by their numbers.
-pub(crate) fn table(
-    alloc: Global,
-    count: u8,
-    kind: KindText,
-    comment: &[u8],
-) -> Result<TableText, Memory> {
+fn table(alloc: Global, count: u8, kind: KindText, comment: &[u8]) -> Result<TableText, Memory> {
     let mut columns = Items::new(alloc);
     for number in 0..count {
         columns.push(ColumnText {
@@ -45,12 +40,7 @@ pub(crate) fn table(
 }
 
 /// A key over the columns of these numbers, a primary one where the name is empty.
-pub(crate) fn key(
-    alloc: Global,
-    name: &[u8],
-    numbers: &[u8],
-    comment: &[u8],
-) -> Result<KeyText, Memory> {
+fn key(alloc: Global, name: &[u8], numbers: &[u8], comment: &[u8]) -> Result<KeyText, Memory> {
     let mut columns = Items::new(alloc);
     for number in numbers {
         columns.push(Blob::from_slice(alloc, &digits(*number))?)?;

@@ -6,6 +6,4 @@ mod definitions;
 #[cfg(test)]
 mod forms;
 #[cfg(test)]
-mod further_keys;
-#[cfg(test)]
 mod texts;
