@@ -6,6 +6,7 @@ mod claims;
 mod conditions;
 mod copies;
 mod database;
+mod finding;
 mod naming;
 mod rows;
 mod truth;
@@ -26,5 +27,6 @@ pub use rows::{
     clashes, columns_cmp, copy_rows, is_visible, kind_at, place_of, primary_cmp, rows_after,
     same_primary, same_unique, value_order, visible, without,
 };
+pub use finding::search;
 pub use values::value_cmp;
 pub use weight::is_too_heavy;

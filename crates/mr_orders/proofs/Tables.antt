@@ -86,7 +86,7 @@ none-kept p (r ∷ rs) = elim (cases_Bool (p r)) [
   | inr e ↦ rw e (e, none-kept p rs)
 ]
 
-ascends-put : (def : TableDef) (row : Row) (rs : List Row) → IsAscending def rs → IsAscending def (put def row rs)
+pub ascends-put : (def : TableDef) (row : Row) (rs : List Row) → IsAscending def rs → IsAscending def (put def row rs)
 ascends-put def row rs all = ascends-placed def row (without def row rs) (none-kept (same_primary def row) rs) (ascends-kept def (λ r. not (same_primary def row r)) rs all)
 
 pub ascends-after : (def : TableDef) (rs : List Row) (c : Change) → IsAscending def rs → IsAscending def (rows_after def rs c)
@@ -116,29 +116,29 @@ ascends-any def keys (r ∷ rs) all = (before-any def keys r rs all.0, ascends-a
 abbrev Ascends : Table → Type 0
 Ascends t = IsAscending t.def t.rows
 
-mapped : (name : List ℕ) (f : Table → Table) (ts : List Table) → ((t : Table) → Ascends t → Ascends (f t)) → AllByRecursion Ascends ts → AllByRecursion Ascends (at_table name f ts)
+pub mapped : (name : List ℕ) (f : Table → Table) (ts : List Table) → ((t : Table) → Ascends t → Ascends (f t)) → AllByRecursion Ascends ts → AllByRecursion Ascends (at_table name f ts)
 mapped name f [] h all = tt
 mapped name f (t ∷ ts) h all = ((elim (is_table name t) as (λ b. Ascends (if b then f t else t)) [ true ↦ h t all.0 | false ↦ all.0 ]), mapped name f ts h all.1)
 
-with-changes : (cs : List Change) (ts : List Table) → AllByRecursion Ascends ts → AllByRecursion Ascends (with_changes ts cs)
+pub with-changes : (cs : List Change) (ts : List Table) → AllByRecursion Ascends ts → AllByRecursion Ascends (with_changes ts cs)
 with-changes [] ts all = all
 with-changes (c ∷ cs) ts all = with-changes cs (changed ts c) (mapped (table_name c) (λ t. record t { rows = rows_after t.def t.rows c }) ts (λ t. ascends-after t.def t.rows c) all)
 
-one-more : (ts : List Table) (t : Table) → AllByRecursion Ascends ts → Ascends t → AllByRecursion Ascends (ts ++ t ∷ [])
+pub one-more : (ts : List Table) (t : Table) → AllByRecursion Ascends ts → Ascends t → AllByRecursion Ascends (ts ++ t ∷ [])
 one-more [] t all here = (here, tt)
 one-more (u ∷ ts) t all here = (all.0, one-more ts t all.1 here)
 
-with-schema : (s : Schema) (ts : List Table) → AllByRecursion Ascends ts → AllByRecursion Ascends (with_schema ts s)
+pub with-schema : (s : Schema) (ts : List Table) → AllByRecursion Ascends ts → AllByRecursion Ascends (with_schema ts s)
 with-schema (CreateTable def) ts all = one-more ts (record { def = def; rows = [] }) all tt
 with-schema (DropTable name) ts all = each-kept Ascends (λ t. not (is_table name t)) ts all
 with-schema (CreateIndex name key) ts all = mapped name (λ t. record t { def = record t.def { secondary = t.def.secondary ++ key ∷ [] } }) ts (λ t. ascends-any t.def (t.def.secondary ++ key ∷ []) t.rows) all
 with-schema (DropIndex name key) ts all = mapped name (λ t. record t { def = record t.def { secondary = filter (λ k. not (is_named key k)) t.def.secondary } }) ts (λ t. ascends-any t.def (filter (λ k. not (is_named key k)) t.def.secondary) t.rows) all
 
-with-body : (b : CommitBody) (ts : List Table) → AllByRecursion Ascends ts → AllByRecursion Ascends (with_body ts b)
+pub with-body : (b : CommitBody) (ts : List Table) → AllByRecursion Ascends ts → AllByRecursion Ascends (with_body ts b)
 with-body (body.Rows cs) ts all = with-changes cs ts all
 with-body (body.Schema s) ts all = with-schema s ts all
 
-with-commits : (cs : List Commit) (ts : List Table) → AllByRecursion Ascends ts → AllByRecursion Ascends (with_commits ts cs)
+pub with-commits : (cs : List Commit) (ts : List Table) → AllByRecursion Ascends ts → AllByRecursion Ascends (with_commits ts cs)
 with-commits [] ts all = all
 with-commits (c ∷ cs) ts all = with-commits cs (with_body ts c.body) (with-body c.body ts all)
 
@@ -147,7 +147,7 @@ views-ascend commits txn = with-changes (changes_by txn) (replay (take (seen_by 
 
 -- ---- selections
 
-found-ascends : (name : List ℕ) (ts : List Table) (t : Table) → AllByRecursion Ascends ts → table_of name ts ≡ Some t → IsAscending t.def t.rows
+pub found-ascends : (name : List ℕ) (ts : List Table) (t : Table) → AllByRecursion Ascends ts → table_of name ts ≡ Some t → IsAscending t.def t.rows
 found-ascends name [] t all e = absurd cc
 found-ascends name (u ∷ ts) t all e = (elim (is_table name u) as (λ b. cond b (Some u) (find (is_table name) ts) ≡ Some t → IsAscending t.def t.rows) [
   | true ↦ λ h. let same : u ≡ t = cc in subst Ascends same all.0

@@ -10,6 +10,7 @@ use Rattle.mr_types.specs.declared.row.Row.{Row}
 use Rattle.mr_types.specs.declared.statement.OrderItem.{OrderItem}
 use Rattle.mr_types.specs.declared.statement.Select.{Select}
 use Rattle.mr_types.specs.declared.value.Value.{Value}
+use Rattle.mr_spec.specs.declared.world.Table.{Table}
 use Rattle.mr_spec.specs.Rows.{primary_cmp, same_primary}
 use Rattle.mr_spec.specs.Select.{order_cmp, selected, sorted}
 use Rattle.mr_spec.specs.Truth.{Where}
@@ -18,6 +19,10 @@ use Rattle.mr_spec.specs.Truth.{Where}
 abbrev pub IsAscending : TableDef → List Row → Type 0
 IsAscending def [] = ⊤
 IsAscending def (r ∷ rs) = AllByRecursion (λ s. primary_cmp def r s ≡ Less) rs × IsAscending def rs
+
+-- the rows of each table ascend
+abbrev pub AreAscending : List Table → Type 0
+AreAscending tables = AllByRecursion (λ t. IsAscending t.def t.rows) tables
 
 -- no two of the rows have the same primary key
 abbrev pub HasKeysOnce : TableDef → List Row → Type 0
