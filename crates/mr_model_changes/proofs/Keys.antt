@@ -54,8 +54,8 @@ any_there def q key rows at all there = go rows all (subst (λ n. n < length row
     go (r ∷ rs) all h e = elim (data-order (primary_cmp def key r)) [
       | inl o ↦ absurd (let f : same_primary def key (get_or (r ∷ rs) (lower def key (r ∷ rs)) key) ≡ false = rw o (rw o refl) in cc)
       | inr (inl o) ↦ elim (cases_Bool (q r)) [
-        | inl t ↦ rw o (rw t (rw o (sym t)))
-        | inr t ↦ rw o (rw t (none-behind def q key rs (equal-behind def key r rs o all.0) ∙ sym t))
+        | inl t ↦ rw o (rw t (rw o refl))
+        | inr t ↦ rw o (rw t (none-behind def q key rs (equal-behind def key r rs o all.0)))
       ]
       | inr (inr o) ↦ (
           let h' : suc (lower def key rs) < suc (length rs) = subst (λ a. (if is_gt a then suc (lower def key rs) else 0) < suc (length rs)) o h in
@@ -88,8 +88,13 @@ any_absent def q key rows at all absent = go rows all (subst (λ n. n < length r
 
 -- ---- among the visible rows, and those of them that don't have another's key
 
-pub seen_there : (def : TableDef) (moment : ℕ) (new : Row) (rows : List Row) (at : ℕ) → IsAscending def rows → IsThere def new rows at → list_any (same_primary def new) (visible def moment rows) ≡ is_visible def moment (get_or rows at new)
-seen_there def moment new rows at all there = any_there def (is_visible def moment) new rows at all there
+any-default : (rows : List Row) (n : ℕ) (d e : Row) → n < length rows → get_or rows n d ≡ get_or rows n e
+any-default [] n d e h = absurd (omega arith)
+any-default (r ∷ rs) zero d e h = refl
+any-default (r ∷ rs) (suc n) d e h = any-default rs n d e (omega arith)
+
+pub seen_there : (def : TableDef) (moment : ℕ) (new : Row) (rows : List Row) (at : ℕ) (row : Row) → IsAscending def rows → IsThere def new rows at → row ≡ get_or rows at row → list_any (same_primary def new) (visible def moment rows) ≡ is_visible def moment row
+seen_there def moment new rows at row all there is = any_there def (is_visible def moment) new rows at all there ∙ ap (is_visible def moment) (any-default rows at new row there.within ∙ sym is)
 
 pub seen_absent : (def : TableDef) (moment : ℕ) (new : Row) (rows : List Row) (at : ℕ) → IsAscending def rows → IsAbsent def new rows at → list_any (same_primary def new) (visible def moment rows) ≡ false
 seen_absent def moment new rows at all absent = any_absent def (is_visible def moment) new rows at all absent
@@ -104,10 +109,11 @@ twice p q (r ∷ rs) = elim (cases_Bool (q r)) [
   | inr e ↦ rw e (twice p q rs)
 ]
 
-pub beside_there : (def : TableDef) (moment : ℕ) (old new : Row) (rows : List Row) (at : ℕ) → IsAscending def rows → IsThere def new rows at → list_any (same_primary def new) (without def old (visible def moment rows)) ≡ (is_visible def moment (get_or rows at new) && not (same_primary def old (get_or rows at new)))
-beside_there def moment old new rows at all there =
+pub beside_there : (def : TableDef) (moment : ℕ) (old new : Row) (rows : List Row) (at : ℕ) (row : Row) → IsAscending def rows → IsThere def new rows at → row ≡ get_or rows at row → list_any (same_primary def new) (without def old (visible def moment rows)) ≡ (is_visible def moment row && not (same_primary def old row))
+beside_there def moment old new rows at row all there is =
     ap (list_any (same_primary def new)) (twice (λ r. not (same_primary def old r)) (is_visible def moment) rows)
     ∙ any_there def (λ r. is_visible def moment r && not (same_primary def old r)) new rows at all there
+    ∙ ap (λ r. is_visible def moment r && not (same_primary def old r)) (any-default rows at new row there.within ∙ sym is)
 
 pub beside_absent : (def : TableDef) (moment : ℕ) (old new : Row) (rows : List Row) (at : ℕ) → IsAscending def rows → IsAbsent def new rows at → list_any (same_primary def new) (without def old (visible def moment rows)) ≡ false
 beside_absent def moment old new rows at all absent =

@@ -1,6 +1,6 @@
 //! What the rows of all writing statements go through.
 
-ghost use Rattle.std.specs.Prelude.{◌≡◌, ◌∷◌, [], fold, IfOk};
+ghost use Rattle.std.specs.Prelude.{◌≡◌, ◌&&◌, not, ◌∷◌, [], fold, IfOk};
 ghost use Rattle.std.specs.List.{list_any};
 ghost use Rattle.mr_types.specs.Refusals.{refuse_where};
 ghost use Rattle.mr_types.specs.Values.{Answers};
@@ -9,7 +9,7 @@ ghost use Rattle.mr_orders.specs.Orders.{IsAscending};
 ghost use Rattle.mr_spec.specs.Claims.{has_claim_in as claim_in, claimed as is_claimed};
 ghost use Rattle.mr_spec.specs.NewRows.{drawn as number_drawn};
 ghost use Rattle.mr_spec.specs.Progress.{seen_rows as rows_seen, advanced as gone_on};
-ghost use Rattle.mr_spec.specs.Rows.{clashes as clash, rows_after as rows_behind, same_primary as has_primary, visible as seen_in, without as left_without};
+ghost use Rattle.mr_spec.specs.Rows.{clashes as clash, rows_after as rows_behind, same_primary as has_primary, is_visible as is_seen, visible as seen_in, without as left_without};
 
 use crate::new_rows::next_behind;
 use crate::scene::Scene;
@@ -64,7 +64,6 @@ fn has_unique_key(def: &TableDef) -> bool
 }
 
 /// Whether the row with the primary key of this one is visible.
-#[tactic(auto, using(crate::proofs::Keys::seen_there, crate::proofs::Keys::seen_absent))]
 fn is_key_taken(scene: &Scene, new: &Row, rows: &[Row]) -> bool
     requires rising { IsAscending scene.now.def.now rows.now }
     ensures { result ≡ list_any (has_primary scene.now.def.now new.now) (seen_in scene.now.def.now scene.now.moment rows.now) }
@@ -112,18 +111,21 @@ pub(crate) fn is_free(scene: &Scene, new: &Row, rows: &[Row]) -> Result<(), Refu
     Ok(())
 }
 
+/// Whether a row is visible and has another primary key than `old`.
+fn is_other_visible(scene: &Scene, old: &Row, row: &Row) -> bool
+    ensures { result ≡ (is_seen scene.now.def.now scene.now.moment row.now && not (has_primary scene.now.def.now old.now row.now)) }
+{
+    is_visible(scene.def, scene.moment, row) && !same_primary(scene.def, old, row)
+}
+
 /// Whether the row with the primary key of this one is visible, and another than the one with that of
 /// `old`.
-#[tactic(auto, using(crate::proofs::Keys::beside_there, crate::proofs::Keys::beside_absent))]
 fn is_key_taken_beside(scene: &Scene, old: &Row, new: &Row, rows: &[Row]) -> bool
     requires rising { IsAscending scene.now.def.now rows.now }
     ensures { result ≡ list_any (has_primary scene.now.def.now new.now) (left_without scene.now.def.now old.now (seen_in scene.now.def.now scene.now.moment rows.now)) }
 {
     match search(scene.def, new, rows) {
-        Ok(at) => {
-            is_visible(scene.def, scene.moment, &rows[at])
-                && !same_primary(scene.def, old, &rows[at])
-        }
+        Ok(at) => is_other_visible(scene, old, &rows[at]),
         Err(_) => false,
     }
 }

@@ -94,9 +94,9 @@ without_found def key rows at all there = go rows all (subst (λ n. n < length r
       | inl o ↦ absurd (let f : same_primary def key (get_or (r ∷ rs) (lower def key (r ∷ rs)) key) ≡ false = rw o (rw o refl) in cc)
       | inr (inl o) ↦ rw o (untouched def key rs (equal-behind def key r rs o all.0))
       | inr (inr o) ↦ (
-        let h' : suc (lower def key rs) < suc (length rs) = subst (λ a. (if is_gt a then suc (lower def key rs) else 0) < suc (length rs)) o h in
-        let e' : same_primary def key (get_or (r ∷ rs) (suc (lower def key rs)) key) ≡ true = subst (λ a. same_primary def key (get_or (r ∷ rs) (if is_gt a then suc (lower def key rs) else 0) key) ≡ true) o e in
-        rw o (ap (λ l. r ∷ l) (go rs all.1 (omega arith) e')))
+          let h' : suc (lower def key rs) < suc (length rs) = subst (λ a. (if is_gt a then suc (lower def key rs) else 0) < suc (length rs)) o h in
+          let e' : same_primary def key (get_or (r ∷ rs) (suc (lower def key rs)) key) ≡ true = subst (λ a. same_primary def key (get_or (r ∷ rs) (if is_gt a then suc (lower def key rs) else 0) key) ≡ true) o e in
+          rw o (ap (λ l. r ∷ l) (go rs all.1 (omega arith) e')))
     ]
 
 pub without_absent : (def : TableDef) (key : Row) (rows : List Row) (at : ℕ) → IsAscending def rows → IsAbsent def key rows at → without def key rows ≡ rows
@@ -107,11 +107,11 @@ without_absent def key rows at all absent = go rows all (subst (λ n. n < length
     go (r ∷ rs) all apart = elim (data-order (primary_cmp def key r)) [
       | inl o ↦ rw o (ap (λ l. r ∷ l) (untouched def key rs (before-all def key r rs o all.0)))
       | inr (inl o) ↦ absurd (
-        let f : same_primary def key r ≡ false = subst (λ a. (if is_gt a then suc (lower def key rs) else 0) < suc (length rs) → same_primary def key (get_or (r ∷ rs) (if is_gt a then suc (lower def key rs) else 0) key) ≡ false) o apart (omega arith) in
-        let g : same_primary def key r ≡ true = rw o refl in cc)
+          let f : same_primary def key r ≡ false = subst (λ a. (if is_gt a then suc (lower def key rs) else 0) < suc (length rs) → same_primary def key (get_or (r ∷ rs) (if is_gt a then suc (lower def key rs) else 0) key) ≡ false) o apart (omega arith) in
+          let g : same_primary def key r ≡ true = rw o refl in cc)
       | inr (inr o) ↦ (
-        let apart' : suc (lower def key rs) < suc (length rs) → same_primary def key (get_or (r ∷ rs) (suc (lower def key rs)) key) ≡ false = subst (λ a. (if is_gt a then suc (lower def key rs) else 0) < suc (length rs) → same_primary def key (get_or (r ∷ rs) (if is_gt a then suc (lower def key rs) else 0) key) ≡ false) o apart in
-        rw o (ap (λ l. r ∷ l) (go rs all.1 (λ h. apart' (omega arith)))))
+          let apart' : suc (lower def key rs) < suc (length rs) → same_primary def key (get_or (r ∷ rs) (suc (lower def key rs)) key) ≡ false = subst (λ a. (if is_gt a then suc (lower def key rs) else 0) < suc (length rs) → same_primary def key (get_or (r ∷ rs) (if is_gt a then suc (lower def key rs) else 0) key) ≡ false) o apart in
+          rw o (ap (λ l. r ∷ l) (go rs all.1 (λ h. apart' (omega arith)))))
     ]
 
 -- a row put in the place of the one with its key
@@ -123,12 +123,12 @@ put_found def new rows at all there = go rows all (subst (λ n. n < length rows)
     go (r ∷ rs) all h e = elim (data-order (primary_cmp def new r)) [
       | inl o ↦ absurd (let f : same_primary def new (get_or (r ∷ rs) (lower def new (r ∷ rs)) new) ≡ false = rw o (rw o refl) in cc)
       | inr (inl o) ↦ (
-        let behind : AllByRecursion (λ s. primary_cmp def new s ≡ Less) rs = equal-behind def new r rs o all.0 in
-        rw o (ap (placed def new) (untouched def new rs behind) ∙ first-behind def new rs behind))
+          let behind : AllByRecursion (λ s. primary_cmp def new s ≡ Less) rs = equal-behind def new r rs o all.0 in
+          rw o (ap (placed def new) (untouched def new rs behind) ∙ first-behind def new rs behind))
       | inr (inr o) ↦ (
-        let h' : suc (lower def new rs) < suc (length rs) = subst (λ a. (if is_gt a then suc (lower def new rs) else 0) < suc (length rs)) o h in
-        let e' : same_primary def new (get_or (r ∷ rs) (suc (lower def new rs)) new) ≡ true = subst (λ a. same_primary def new (get_or (r ∷ rs) (if is_gt a then suc (lower def new rs) else 0) new) ≡ true) o e in
-        rw o (rw o (ap (λ l. r ∷ l) (go rs all.1 (omega arith) e'))))
+          let h' : suc (lower def new rs) < suc (length rs) = subst (λ a. (if is_gt a then suc (lower def new rs) else 0) < suc (length rs)) o h in
+          let e' : same_primary def new (get_or (r ∷ rs) (suc (lower def new rs)) new) ≡ true = subst (λ a. same_primary def new (get_or (r ∷ rs) (if is_gt a then suc (lower def new rs) else 0) new) ≡ true) o e in
+          rw o (rw o (ap (λ l. r ∷ l) (go rs all.1 (omega arith) e'))))
     ]
 
 -- or where none has it
@@ -139,13 +139,12 @@ put_absent def new rows at all absent = go rows all (subst (λ n. n < length row
     go [] all apart = refl
     go (r ∷ rs) all apart = elim (data-order (primary_cmp def new r)) [
       | inl o ↦ (
-        let behind : AllByRecursion (λ s. primary_cmp def new s ≡ Less) rs = before-all def new r rs o all.0 in
-        rw o (rw o (ap (λ l. new ∷ r ∷ l) (untouched def new rs behind))))
+          let behind : AllByRecursion (λ s. primary_cmp def new s ≡ Less) rs = before-all def new r rs o all.0 in
+          rw o (rw o (ap (λ l. new ∷ r ∷ l) (untouched def new rs behind))))
       | inr (inl o) ↦ absurd (
-        let f : same_primary def new r ≡ false = subst (λ a. (if is_gt a then suc (lower def new rs) else 0) < suc (length rs) → same_primary def new (get_or (r ∷ rs) (if is_gt a then suc (lower def new rs) else 0) new) ≡ false) o apart (omega arith) in
-        let g : same_primary def new r ≡ true = rw o refl in cc)
+          let f : same_primary def new r ≡ false = subst (λ a. (if is_gt a then suc (lower def new rs) else 0) < suc (length rs) → same_primary def new (get_or (r ∷ rs) (if is_gt a then suc (lower def new rs) else 0) new) ≡ false) o apart (omega arith) in
+          let g : same_primary def new r ≡ true = rw o refl in cc)
       | inr (inr o) ↦ (
-        let apart' : suc (lower def new rs) < suc (length rs) → same_primary def new (get_or (r ∷ rs) (suc (lower def new rs)) new) ≡ false = subst (λ a. (if is_gt a then suc (lower def new rs) else 0) < suc (length rs) → same_primary def new (get_or (r ∷ rs) (if is_gt a then suc (lower def new rs) else 0) new) ≡ false) o apart in
-        rw o (rw o (ap (λ l. r ∷ l) (go rs all.1 (λ h. apart' (omega arith))))))
+          let apart' : suc (lower def new rs) < suc (length rs) → same_primary def new (get_or (r ∷ rs) (suc (lower def new rs)) new) ≡ false = subst (λ a. (if is_gt a then suc (lower def new rs) else 0) < suc (length rs) → same_primary def new (get_or (r ∷ rs) (if is_gt a then suc (lower def new rs) else 0) new) ≡ false) o apart in
+          rw o (rw o (ap (λ l. r ∷ l) (go rs all.1 (λ h. apart' (omega arith))))))
     ]
-

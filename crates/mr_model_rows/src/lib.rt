@@ -22,11 +22,11 @@ pub use database::{
     copy_table, copy_tables, defines, is_table, replay, table_name, table_of, with_body,
     with_changes,
 };
+pub use finding::search;
 pub use naming::{known_columns, right_literals};
 pub use rows::{
     clashes, columns_cmp, copy_rows, is_visible, kind_at, place_of, primary_cmp, rows_after,
     same_primary, same_unique, value_order, visible, without,
 };
-pub use finding::search;
 pub use values::value_cmp;
 pub use weight::is_too_heavy;
