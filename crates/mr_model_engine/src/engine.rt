@@ -127,7 +127,6 @@ impl Engine {
     }
 
     /// The changes of a statement: of the transaction, or a commit by themselves.
-    #[tactic(auto, using(crate::proofs::Current::view_ascends))]
     pub fn keep(&mut self, alloc: Global, changes: ChangeList) -> Result<(), Memory>
         ensures { OnOk result (world_in self.new ≡ keeping changes (world_in self.old)) }
     {
