@@ -1,0 +1,70 @@
+-- How claims are kept: for each session a list, and for each claim an entry.
+use Rattle.std.specs.Prelude.{◌≡◌, ◌&&◌, not, ℕ, ◌==◌, cond, List, [], Option, Some, None, Vec, nat_lt}
+use Rattle.std.proofs.Props.{props}
+use Rattle.std.specs.BTreeMap.{get, get_by}
+use Rattle.std.specs.Cmp.Lexicographic.{slice_cmp}
+use Rattle.std.specs.Ordering.{nat_cmp}
+use Rattle.std.specs.declared.alloc.Global.{Global}
+use Rattle.std.specs.declared.collections.BTreeMap.{BTreeMap}
+use Rattle.mr_claims.specs.declared.entry.Entry.{Entry}
+use Rattle.mr_claims.specs.declared.claimed.Claimed.{Claimed}
+use Rattle.mr_claims.specs.declared.claimed.Claimed.TheVariants.{Free, Held, Changed}
+use Rattle.mr_claims.specs.Lists.{times}
+
+abbrev pub Lists : Type 0
+Lists = BTreeMap ℕ (Vec (List ℕ) Global) Global
+
+abbrev pub Entries : Type 0
+Entries = BTreeMap (Vec ℕ Global) Entry Global
+
+abbrev pub items_of : Option (Vec (List ℕ) Global) → List (List ℕ)
+items_of None = []
+items_of (Some v) = v.items
+
+-- a session's claims
+abbrev pub held_in : Lists → ℕ → List (List ℕ)
+held_in lists session = items_of (get nat_cmp lists session)
+
+-- a claim's entry
+abbrev pub entry_in : Entries → List ℕ → Option Entry
+entry_in entries claim = get_by (λ k. slice_cmp nat_cmp claim k.items) entries
+
+-- how often the session holds the claim of this entry
+abbrev pub count_of : ℕ → Option Entry → ℕ
+count_of session None = 0
+count_of session (Some e) = cond (e.session == session) e.count 0
+
+-- the last commit that is noted in the entry
+abbrev pub noted : Option Entry → Option ℕ
+noted None = None
+noted (Some e) = e.changed
+
+-- the number where there is one, else what was noted
+abbrev pub marked : Option ℕ → Option ℕ → Option ℕ
+marked None o = o
+marked (Some k) o = Some k
+
+abbrev pub an_empty_entry : Entry
+an_empty_entry = record { session = 0; count = 0; changed = None }
+
+-- the same where it isn't forgotten
+abbrev pub unless_forgotten : ℕ → Option ℕ → Option ℕ
+unless_forgotten before None = None
+unless_forgotten before (Some k) = cond (nat_lt before k) (Some k) None
+
+-- what is noted is behind the snapshot `since`
+abbrev pub changed_since : ℕ → Option ℕ → Claimed
+changed_since since None = Free
+changed_since since (Some k) = cond (nat_lt since k) (Changed k) Free
+
+-- what a claim with this entry is to a session whose snapshot is `since`
+abbrev pub judged : Option Entry → ℕ → ℕ → Claimed
+judged None session since = Free
+judged (Some e) session since = cond (nat_lt 0 e.count && not (e.session == session)) (Held e.session) (changed_since since e.changed)
+
+-- the entries count what the lists have
+abbrev pub Counted : Lists → Entries → Type 0
+Counted lists entries = (session : ℕ) (claim : List ℕ) → times claim (held_in lists session) ≡ count_of session (entry_in entries claim)
+
+pub Counted-prop : (lists : Lists) (entries : Entries) → IsProp (Counted lists entries)
+Counted-prop lists entries = hlevel props
