@@ -1,6 +1,5 @@
 -- How claims are kept: for each session a list, and for each claim an entry.
-use Rattle.std.specs.Prelude.{◌≡◌, ◌&&◌, not, ℕ, ◌==◌, cond, List, [], Option, Some, None, Vec, nat_lt}
-use Rattle.std.proofs.Props.{props}
+use Rattle.std.specs.Prelude.{◌≡◌, ◌&&◌, ◌||◌, not, ℕ, suc, zero, ◌==◌, Bool, true, cond, List, [], length, Option, Some, None, is_some, Vec, nat_lt}
 use Rattle.std.specs.BTreeMap.{get, get_by}
 use Rattle.std.specs.Cmp.Lexicographic.{slice_cmp}
 use Rattle.std.specs.Ordering.{nat_cmp}
@@ -44,6 +43,7 @@ abbrev pub marked : Option ℕ → Option ℕ → Option ℕ
 marked None o = o
 marked (Some k) o = Some k
 
+-- an entry that says nothing
 abbrev pub an_empty_entry : Entry
 an_empty_entry = record { session = 0; count = 0; changed = None }
 
@@ -62,9 +62,29 @@ abbrev pub judged : Option Entry → ℕ → ℕ → Claimed
 judged None session since = Free
 judged (Some e) session since = cond (nat_lt 0 e.count && not (e.session == session)) (Held e.session) (changed_since since e.changed)
 
+-- the entry says more than commits up to this number
+abbrev pub says_more : ℕ → Entry → Bool
+says_more before e = nat_lt 0 e.count || is_some (unless_forgotten before e.changed)
+
+-- there is no entry that says nothing but commits up to this number
+abbrev pub is_needed : ℕ → Option Entry → Bool
+is_needed before None = true
+is_needed before (Some e) = says_more before e
+
+-- the entry where it says more than commits up to this number
+abbrev pub needed_only : ℕ → Option Entry → Option Entry
+needed_only before None = None
+needed_only before (Some e) = cond (says_more before e) (Some e) None
+
 -- the entries count what the lists have
 abbrev pub Counted : Lists → Entries → Type 0
 Counted lists entries = (session : ℕ) (claim : List ℕ) → times claim (held_in lists session) ≡ count_of session (entry_in entries claim)
 
-pub Counted-prop : (lists : Lists) (entries : Entries) → IsProp (Counted lists entries)
-Counted-prop lists entries = hlevel props
+-- an entry stands for those claims alone that a session holds or that a commit behind this number has
+abbrev pub AreNeeded : ℕ → Entries → Type 0
+AreNeeded before entries = (claim : List ℕ) → is_needed before (entry_in entries claim) ≡ true
+
+-- how many of the first n sessions hold claims
+unfoldable pub holding : ℕ → Lists → ℕ
+holding zero lists = 0
+holding (suc n) lists = cond (nat_lt 0 (length (held_in lists n))) (suc (holding n lists)) (holding n lists)

@@ -1,24 +1,27 @@
 //! Claims as their callers see them.
-ghost use Rattle.mr_claims.specs.Kept.{Counted, Counted-prop};
+ghost use Rattle.mr_claims.specs.Commits.{IsKept, IsKept-prop};
 
 use crate::claimed::Claimed;
+use crate::commits::{Commits, make_room_for_commits};
 use crate::entries::{Entries, entry_of, make_entry, raise};
 use crate::judge::judge;
-use crate::lists::{Lists, add};
-use crate::release::release;
+use crate::lists::{Lists, add, make_room};
+use crate::release::{commit_claims, forget_commits, release};
 use mr_base::{Blob, Memory};
 use std::alloc::Global;
-use std::collections::BTreeMap;
+use std::collections::{BTreeMap, VecDeque};
 
 /// Which session holds which claims, and by which commit each claim was last changed. A claim is a list of bytes; no claim is held
-/// by two sessions.
+/// by two sessions. An entry and a commit stay only while a session holds a claim of theirs, or a commit behind the forgotten ones has
+/// it.
 #[derive(Drop)]
 pub struct Claims {
     alloc: Global,
     lists: Lists,
     entries: Entries,
+    commits: Commits,
     before: u64,
-    ghost kept: { Counted lists entries } by { Counted-prop lists entries },
+    ghost kept: { IsKept lists entries commits before } by { IsKept-prop lists entries commits before },
 }
 
 impl Claims {
@@ -38,6 +41,7 @@ impl Claims {
             alloc,
             lists: BTreeMap::new(alloc),
             entries: BTreeMap::new(alloc),
+            commits: VecDeque::new(alloc),
             before: 0,
         }
     }
@@ -61,9 +65,11 @@ impl Claims {
         ensures before { (state self.new).before ≡ (state self.old).before }
     {
         let copy = Blob::from_slice(self.alloc, claim)?;
+        make_room_for_commits(&mut self.commits)?;
+        make_room(&mut self.lists, self.alloc, session)?;
         make_entry(&mut self.entries, self.alloc, claim)?;
-        add(&mut self.lists, self.alloc, session, copy)?;
         raise(&mut self.entries, session, claim);
+        add(&mut self.lists, session, copy);
         Ok(())
     }
 
@@ -73,7 +79,13 @@ impl Claims {
         ensures changed { (c : List ℕ) → (state self.new).changed c ≡ (state self.old).changed c }
         ensures before { (state self.new).before ≡ (state self.old).before }
     {
-        release(&mut self.lists, &mut self.entries, session, count, None);
+        release(
+            &mut self.lists,
+            &mut self.entries,
+            session,
+            count,
+            self.before,
+        );
     }
 
     /// The session's claims are changed by commit k, and it lets them go. Takes no memory.
@@ -84,15 +96,24 @@ impl Claims {
         ensures changed { (c : List ℕ) → (state self.new).changed c ≡ after_commit k ((state self.old).held session) c ((state self.old).changed c) }
         ensures before { (state self.new).before ≡ (state self.old).before }
     {
-        release(&mut self.lists, &mut self.entries, session, 0, Some(k));
+        commit_claims(
+            &mut self.lists,
+            &mut self.entries,
+            &mut self.commits,
+            self.alloc,
+            session,
+            k,
+        );
     }
 
-    /// Forgets the commits up to this number. Takes no memory.
+    /// Forgets the commits up to this number, in time by the claims that they have. Takes no memory.
     pub fn forget(&mut self, before: u64)
         ensures held { (s : ℕ) → (state self.new).held s ≡ (state self.old).held s }
         ensures changed { (c : List ℕ) → (state self.new).changed c ≡ unless_forgotten before ((state self.old).changed c) }
         ensures before { (state self.new).before ≡ max (state self.old).before before }
     {
-        self.before = self.before.max(before);
+        let before = self.before.max(before);
+        forget_commits(&mut self.entries, &mut self.commits, before);
+        self.before = before;
     }
 }

@@ -1,8 +1,8 @@
 //! The entries of claims, by their bytes.
-ghost use Rattle.std.specs.Prelude.{◌≡◌, ◌≢◌, ◌&&◌, ◌+◌, ◌-◌, ◌<◌, ◌^◌, ◌==◌, ℕ, List, Some, None, cond, is_some, true, OnOk, OnErr, suc};
+ghost use Rattle.std.specs.Prelude.{◌≡◌, ◌≢◌, ◌&&◌, ◌+◌, ◌-◌, ◌<◌, ◌^◌, ◌==◌, ℕ, List, Some, None, cond, is_some, true, false, OnOk, OnErr, suc};
 ghost use Rattle.std.specs.Option.{IsSomeAnd};
 ghost use Rattle.std.specs.Str.{bytes_eq};
-ghost use Rattle.mr_claims.specs.Kept.{entry_in, count_of, noted, marked, an_empty_entry};
+ghost use Rattle.mr_claims.specs.Kept.{entry_in, count_of, noted, marked, an_empty_entry, needed_only, says_more};
 
 use crate::entry::Entry;
 use mr_base::{Blob, Memory};
@@ -40,11 +40,14 @@ fn put_new(entries: &mut Entries, alloc: Global, claim: &[u8]) -> Result<(), Mem
     Ok(())
 }
 
-/// Makes an entry for a claim that has none, or finds room for one more in the one that it has. Takes memory; what the entries say stays.
+/// Makes an entry for a claim that has none, or finds room for one more in the one that it has. Takes memory; what the entries say
+/// stays, and after an error so do they.
 pub fn make_entry(entries: &mut Entries, alloc: Global, claim: &[u8]) -> Result<(), Memory>
     ensures room { OnOk result (IsSomeAnd (entry_in entries.new claim.now) (λ e. e.count + 1 < 2 ^ 64)) }
     ensures counts { (session : ℕ) (c : List ℕ) → count_of session (entry_in entries.new c) ≡ count_of session (entry_in entries.old c) }
     ensures noted { (c : List ℕ) → noted (entry_in entries.new c) ≡ noted (entry_in entries.old c) }
+    ensures others { (c : List ℕ) → bytes_eq claim.now c ≡ false → entry_in entries.new c ≡ entry_in entries.old c }
+    ensures err { OnErr result ((c : List ℕ) → entry_in entries.new c ≡ entry_in entries.old c) }
 {
     if let Some(entry) = entry_of(entries, claim) {
         return if entry.count < usize::MAX {
@@ -73,6 +76,8 @@ pub fn raise(entries: &mut Entries, session: u8, claim: &[u8])
     requires alone { (s : ℕ) → s ≢ session → count_of s (entry_in entries.old claim.now) ≡ 0 }
     ensures counts { (s : ℕ) (c : List ℕ) → count_of s (entry_in entries.new c) ≡ cond (s == session && bytes_eq claim.now c) (suc (count_of s (entry_in entries.old c))) (count_of s (entry_in entries.old c)) }
     ensures noted { (c : List ℕ) → noted (entry_in entries.new c) ≡ noted (entry_in entries.old c) }
+    ensures others { (c : List ℕ) → bytes_eq claim.now c ≡ false → entry_in entries.new c ≡ entry_in entries.old c }
+    ensures held { IsSomeAnd (entry_in entries.new claim.now) (λ e. 0 < e.count) }
 {
     let Some(entry) = entry_of(entries, claim) else {
         return;
@@ -90,6 +95,7 @@ pub fn lower(entries: &mut Entries, session: u8, claim: &[u8], change: Option<u6
     requires held { 0 < count_of session (entry_in entries.old claim.now) }
     ensures counts { (s : ℕ) (c : List ℕ) → count_of s (entry_in entries.new c) ≡ cond (s == session && bytes_eq claim.now c) (count_of s (entry_in entries.old c) - 1) (count_of s (entry_in entries.old c)) }
     ensures noted { (c : List ℕ) → noted (entry_in entries.new c) ≡ cond (bytes_eq claim.now c) (marked change (noted (entry_in entries.old c))) (noted (entry_in entries.old c)) }
+    ensures others { (c : List ℕ) → bytes_eq claim.now c ≡ false → entry_in entries.new c ≡ entry_in entries.old c }
 {
     let Some(entry) = entry_of(entries, claim) else {
         return;
@@ -100,4 +106,34 @@ pub fn lower(entries: &mut Entries, session: u8, claim: &[u8], change: Option<u6
         changed: change.or(entry.changed),
     };
     replace(entries, claim, lowered);
+}
+
+/// Takes a claim's entry out.
+fn remove(entries: &mut Entries, claim: &[u8])
+    ensures { (c : List ℕ) → entry_in entries.new c ≡ cond (bytes_eq claim.now c) None (entry_in entries.old c) }
+{
+    entries.remove(claim);
+}
+
+/// Whether an entry says more than commits up to this number.
+fn is_needed(entry: &Entry, before: u64) -> bool
+    ensures { result ≡ says_more before entry.now }
+{
+    let is_changed = match entry.changed {
+        Some(k) => before < k,
+        None => false,
+    };
+    entry.count > 0 || is_changed
+}
+
+/// Takes a claim's entry out, where it says nothing but commits up to this number.
+pub fn drop_unneeded(entries: &mut Entries, claim: &[u8], before: u64)
+    ensures { (c : List ℕ) → entry_in entries.new c ≡ cond (bytes_eq claim.now c) (needed_only before (entry_in entries.old c)) (entry_in entries.old c) }
+{
+    let Some(entry) = entry_of(entries, claim) else {
+        return;
+    };
+    if !is_needed(&entry, before) {
+        remove(entries, claim);
+    }
 }

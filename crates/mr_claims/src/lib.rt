@@ -3,6 +3,8 @@
 
 mod claimed;
 mod claims;
+mod commit;
+mod commits;
 mod entries;
 mod entry;
 mod judge;

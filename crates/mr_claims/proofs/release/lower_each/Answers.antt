@@ -2,7 +2,7 @@ use Rattle.std.proofs.Common.{◌≡◌, ◌<◌, ◌-◌, ◌==◌, ℕ, List, 
 use Rattle.std.specs.Str.{bytes_eq}
 use Rattle.mr_claims.specs.Lists.{has, times}
 use Rattle.mr_claims.specs.Kept.{entry_in, count_of}
-use Rattle.mr_claims.proofs.Counts.{still_there, times_take, has_take, count_step, note_step, number_itself}
+use Rattle.mr_claims.proofs.Counts.{still_there, times_take, has_take, count_step, note_step, others_step, number_itself}
 use Rattle.mr_claims.proofs.release.lower_each.Goals as goal
 
 pub lower-requires : goal.lower-requires
@@ -25,4 +25,5 @@ lowering-preserved c =
     record {
       counts = λ s d. count_step (s == c.args.session) (bytes_eq x d) _ _ _ (times d (take i claims)) _ (c.lowering.invariant.counts s d) (c.lower.ensures.counts s d) (times_take d claims i x c.lowering-test.true is);
       noted = λ d. note_step (has d (take i claims)) (bytes_eq x d) _ c.args.change _ _ _ (c.lowering.invariant.noted d) (c.lower.ensures.noted d) (has_take d claims i x c.lowering-test.true is);
+      others = λ d. others_step (has d (take i claims)) (bytes_eq x d) _ _ _ _ (c.lowering.invariant.others d) (c.lower.ensures.others d) (has_take d claims i x c.lowering-test.true is);
     }
