@@ -1,5 +1,5 @@
 -- How often a claim stands in a list, and what is noted of it, one claim after another.
-use Rattle.std.proofs.Common.{◌≡◌, ◌≢◌, ℕ, ◌+◌, ◌-◌, ◌<◌, ◌≤◌, ◌==◌, ◌&&◌, ◌||◌, zero, suc, List, [], ◌∷◌, ◌++◌, Bool, true, false, cond, Option, Some, None, refl, sym, ◌∙◌, ap, arith, add-one, take, drop, length, length-drop, get_or, inl, inr}
+use Rattle.std.proofs.Common.{◌≡◌, ◌≢◌, ℕ, ◌+◌, ◌-◌, ◌<◌, ◌≤◌, ◌==◌, ◌&&◌, ◌||◌, zero, suc, List, [], ◌∷◌, ◌++◌, Bool, true, false, cond, Option, Some, None, refl, sym, ◌∙◌, ap, arith, add-one, take, drop, length, get_or, inl, inr}
 use Rattle.std.proofs.lemmas.Bool.{cases_Bool}
 use Rattle.std.proofs.lemmas.Slice.Eq.{bytes_eq-Decides}
 use Rattle.std.specs.Str.{bytes_eq}
@@ -188,22 +188,8 @@ raised_at session s x d f n e new h is p q alone = elim (cases_Bool (bytes_eq x 
     and_false true b m n e = ap (λ c. cond c m n) e
     and_false false b m n e = refl
 
-take_all : (m : ℕ) (cs : List (List ℕ)) → length cs ≤ m → take m cs ≡ cs
-take_all zero [] l = refl
-take_all (suc m) [] l = refl
-take_all zero (c ∷ cs) l = absurd (omega (arith, l))
-take_all (suc m) (c ∷ cs) l = ap (λ ds. c ∷ ds) (take_all m cs (omega (arith, l)))
-
--- a list from a place on, as a slice
-pub take_rest : (n : ℕ) (cs : List (List ℕ)) → take (length cs - n) (drop n cs) ≡ drop n cs
-take_rest n cs = take_all (length cs - n) (drop n cs) (omega (arith, length-drop n cs))
-
 -- what changes at no claim of a list's front, nor at the next one
 pub others_step : {W : Type 0} (h eq g : Bool) (o cur new : W) → (h ≡ false → cur ≡ o) → (eq ≡ false → new ≡ cur) → g ≡ (h || eq) → g ≡ false → new ≡ o
 others_step true eq g o cur new p q r n = (let no : true ≡ false = sym r ∙ n in cc)
 others_step false true g o cur new p q r n = (let no : true ≡ false = sym r ∙ n in cc)
 others_step false false g o cur new p q r n = q refl ∙ p refl
-
-pub closed_counts : (same : Bool) (d : List ℕ) (cs ds es : List (List ℕ)) (o m : ℕ) → ds ≡ cond same [] cs → (same ≡ true → es ≡ cs) → times d cs ≡ o → m ≡ o - cond same (times d es) 0 → times d ds ≡ m
-closed_counts true d cs ds es o m e is t r = let p : times d es ≡ times d cs = ap (times d) (is refl) in let q : times d ds ≡ 0 = ap (times d) e in omega (arith, p, q, t, r)
-closed_counts false d cs ds es o m e is t r = ap (times d) e ∙ omega (arith, t, r)

@@ -1,6 +1,6 @@
 -- What is dropped when commits are forgotten.
-use Rattle.std.proofs.Common.{◌≡◌, ℕ, ◌<◌, ◌≤◌, ◌==◌, ◌||◌, Bool, true, false, cond, Option, Some, None, is_some, max, refl, sym, ◌∙◌, ap, arith, inl, inr, nat_lt}
-use Rattle.std.proofs.lemmas.Bool.{cases_Bool, ltb-true, ltb-false, lt-ltb}
+use Rattle.std.proofs.Common.{◌≡◌, ℕ, ◌<◌, ◌≤◌, ◌==◌, ◌||◌, Bool, true, false, cond, Option, Some, None, is_some, refl, sym, ◌∙◌, ap, arith, inl, inr, nat_lt}
+use Rattle.std.proofs.lemmas.Bool.{cases_Bool, ltb-false, lt-ltb}
 use Rattle.std.proofs.lemmas.Bool.Decides.{nat_tests}
 use Rattle.mr_claims.specs.declared.entry.Entry.{Entry}
 use Rattle.mr_claims.specs.Kept.{count_of, noted, says_more, is_needed, needed_only, unless_forgotten}
@@ -53,13 +53,6 @@ needed_twice before (Some e) = elim (cases_Bool (says_more before e)) [
   | inr n ↦ ap (λ b. needed_only before (cond b (Some e) None)) n ∙ ap (λ b. cond b (Some e) None) (sym n)
 ]
 
--- an entry needed is needed only
-pub still_there : (before : ℕ) (e : Entry) → says_more before e ≡ true → Some e ≡ needed_only before (Some e)
-still_there before e y = ap (λ b. cond b (Some e) None) (sym y)
-
-pub gone : (before : ℕ) (e : Entry) → says_more before e ≡ false → None ≡ needed_only before (Some e)
-gone before e n = ap (λ b. cond b (Some e) None) (sym n)
-
 pub drop_step : (before : ℕ) (h eq g : Bool) (o cur new : Option Entry) → cur ≡ cond h (needed_only before o) o → new ≡ cond eq (needed_only before cur) cur → g ≡ (h || eq) → new ≡ cond g (needed_only before o) o
 drop_step before true true g o cur new p q r = q ∙ ap (needed_only before) p ∙ needed_twice before o ∙ ap (λ b. cond b (needed_only before o) o) (sym r)
 drop_step before true false g o cur new p q r = q ∙ p ∙ ap (λ b. cond b (needed_only before o) o) (sym r)
@@ -70,24 +63,6 @@ drop_step before false false g o cur new p q r = q ∙ p ∙ ap (λ b. cond b (n
 pub dropped_count : (s before : ℕ) (h : Bool) (o new : Option Entry) → new ≡ cond h (needed_only before o) o → count_of s new ≡ count_of s o
 dropped_count s before true o new e = ap (count_of s) e ∙ same_count s before o
 dropped_count s before false o new e = ap (count_of s) e
-
-pub dropped_note : (before : ℕ) (h : Bool) (o new : Option Entry) → new ≡ cond h (needed_only before o) o → unless_forgotten before (noted new) ≡ unless_forgotten before (noted o)
-dropped_note before true o new e = ap (λ p. unless_forgotten before (noted p)) e ∙ same_note before o
-dropped_note before false o new e = ap (λ p. unless_forgotten before (noted p)) e
-
--- an entry of a claim that isn't dropped, and one that is
-pub needed_still : (before : ℕ) (h : Bool) (o mid new : Option Entry) → new ≡ cond h (needed_only before mid) mid → (h ≡ false → mid ≡ o) → is_needed before o ≡ true → is_needed before new ≡ true
-needed_still before true o mid new e f n = ap (is_needed before) e ∙ now_needed before mid
-needed_still before false o mid new e f n = ap (is_needed before) (e ∙ f refl) ∙ n
-
--- a number up to the forgotten ones adds nothing
-pub up_to : (before k : ℕ) (h : Bool) (o : Option ℕ) → k ≤ before → unless_forgotten before (or_earlier o h k) ≡ unless_forgotten before o
-up_to before k true None le = elim (cases_Bool (nat_lt before k)) [
-  | inl y ↦ let lt : before < k = ltb-true before k y in absurd (omega (arith, le, lt))
-  | inr n ↦ ap (λ b. cond b (Some k) None) n
-]
-up_to before k false None le = refl
-up_to before k h (Some j) le = refl
 
 -- the entries of a commit that is taken out are needed, or gone
 pub forgotten : (before k : ℕ) (h : Bool) (l : Option ℕ) (o new : Option Entry) → (is_needed before o || is_some (or_earlier l h k)) ≡ true → new ≡ cond h (needed_only before o) o → (is_needed before new || is_some l) ≡ true
@@ -122,10 +97,6 @@ needed_by_commit a k (Some x) lt e =
 
 pub needed_by_hold : (a : ℕ) (e : Entry) → 0 < e.count → says_more a e ≡ true
 needed_by_hold a e lt = ap (λ b. b || is_some (unless_forgotten a e.changed)) (lt-ltb 0 e.count lt)
-
-pub unless_max : (a b : ℕ) (o : Option ℕ) → unless_forgotten (max a b) o ≡ unless_forgotten b (unless_forgotten a o)
-unless_max a b None = refl
-unless_max a b (Some k) = grind (arith, nat_tests)
 
 pub unless_later : (a b : ℕ) (o : Option ℕ) → a ≤ b → unless_forgotten b (unless_forgotten a o) ≡ unless_forgotten b o
 unless_later a b None le = refl

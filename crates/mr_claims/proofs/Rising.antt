@@ -8,9 +8,6 @@ use Rattle.mr_claims.specs.Kept.{unless_forgotten}
 use Rattle.mr_claims.specs.Commits.{or_earlier, last_of, Rise, RisesFrom, BeginBehind, IsWith}
 use Rattle.mr_claims.proofs.Counts.{same_bytes}
 
-pub rise_tail : (m : Commit) (ms : List Commit) → RisesFrom (m ∷ ms) → RisesFrom ms
-rise_tail m ms h = (m.number, h.1.2)
-
 pub rise_from : (b : ℕ) (ms : List Commit) → RisesFrom ms → BeginBehind b ms → Rise b ms
 rise_from b [] h behind = tt
 rise_from b (m ∷ ms) h behind = (behind, h.1.1, h.1.2)
@@ -74,6 +71,3 @@ rise_with a k (x ∷ xs) old new w r lt last = subst (Rise a) (sym w.3) (rise_pu
 pub with_one : (k : ℕ) (held : List (List ℕ)) (old new : List Commit) (m : Commit) → 0 < length held → m.number ≡ k → m.claims.items ≡ held → new ≡ old ++ m ∷ [] → IsWith k held old new
 with_one k [] old new m some e f g = absurd (omega (arith, some))
 with_one k (x ∷ xs) old new m some e f g = (m, e, f, g)
-
-pub with_none : (k : ℕ) (held : List (List ℕ)) (old : List Commit) → held ≡ [] → IsWith k held old old
-with_none k held old e = subst (λ cs. IsWith k cs old old) (sym e) refl
