@@ -4,3 +4,4 @@ mod OperationLaws
 mod OperationFitting
 mod RecordLaws
 mod WritingLaws
+mod Lengths

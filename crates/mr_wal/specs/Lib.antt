@@ -3,3 +3,4 @@ pub mod Operations
 pub mod EngineLog
 pub mod Given
 pub mod Fitting
+pub mod Distinct

@@ -17,10 +17,30 @@ pub struct Operation {
     pub put: Option<Blob>,
 }
 
+impl Operation {
+    ghost use Rattle.std.specs.Prelude.{◌≡◌};
+    ghost use Rattle.mr_wal.specs.Operations.{operation_of};
+
+    /// The operation, lent.
+    pub fn lend(&self) -> OperationRef<'_>
+        ensures { operation_of result ≡ self.now }
+    {
+        let put = match &self.put {
+            Some(value) => Some(value.as_slice()),
+            None => None,
+        };
+        OperationRef {
+            family: self.family,
+            key: self.key.as_slice(),
+            put,
+        }
+    }
+}
+
 /// Operations that are done together.
 pub type Batch = Items<Operation>;
 
-/// An operation that is lent from the record's bytes.
+/// An operation whose bytes are lent: a put of a value for a key of a family, or a deletion, where `put` is None.
 #[derive(Clone, Copy)]
 pub struct OperationRef<'a> {
     pub family: u32,

@@ -1,0 +1,7 @@
+mod Keys
+mod Counts
+mod Judging
+mod Forgetting
+mod Rising
+mod Holding
+mod Keeping
