@@ -1,0 +1,5 @@
+mod Choice
+mod Keys
+mod Keeping
+mod Cutting
+mod Worked

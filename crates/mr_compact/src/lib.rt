@@ -1,0 +1,13 @@
+//! Which runs of a family are merged, and what their merge keeps.
+#![tactic(auto)]
+
+mod choosing;
+mod laws;
+mod span;
+
+pub use choosing::pick;
+pub use laws::{
+    kept_are_in_order, keys_in_one_run, newest_beside_others, newest_of_kept, runs_have_all,
+    views_of_kept,
+};
+pub use span::{FileList, Pick, Span, SpanList};
