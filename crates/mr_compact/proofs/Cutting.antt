@@ -15,7 +15,7 @@ append_assoc : (xs ys zs : List Version) → (xs ++ ys) ++ zs ≡ xs ++ (ys ++ z
 append_assoc [] ys zs = refl
 append_assoc (x ∷ xs) ys zs = ap (λ (ws : List Version). x ∷ ws) (append_assoc xs ys zs)
 
-end_in_order : (d : Direction) (run vs : List Version) → IsInOrder (version_cmp d) (run ++ vs) → IsInOrder (version_cmp d) vs
+pub end_in_order : (d : Direction) (run vs : List Version) → IsInOrder (version_cmp d) (run ++ vs) → IsInOrder (version_cmp d) vs
 end_in_order d [] vs all = all
 end_in_order d (u ∷ run) vs all = end_in_order d run vs all.1
 
@@ -23,7 +23,7 @@ end_each : (P : Version → Type 0) (run vs : List Version) → AllByRecursion P
 end_each P [] vs all = all
 end_each P (u ∷ run) vs all = end_each P run vs all.1
 
-start_each : (P : Version → Type 0) (run vs : List Version) → AllByRecursion P (run ++ vs) → AllByRecursion P run
+pub start_each : (P : Version → Type 0) (run vs : List Version) → AllByRecursion P (run ++ vs) → AllByRecursion P run
 start_each P [] vs all = tt
 start_each P (u ∷ run) vs all = (all.0, start_each P run vs all.1)
 

@@ -3,3 +3,6 @@ mod Keys
 mod Keeping
 mod Cutting
 mod Worked
+mod Outside
+mod Joining
+mod Carrying

@@ -3,6 +3,7 @@
 
 mod choosing;
 mod laws;
+mod merging;
 mod span;
 
 pub use choosing::pick;
@@ -10,4 +11,5 @@ pub use laws::{
     kept_are_in_order, keys_in_one_run, newest_beside_others, newest_of_kept, runs_have_all,
     views_of_kept,
 };
+pub use merging::{RunList, merge_runs};
 pub use span::{FileList, Pick, Span, SpanList};
