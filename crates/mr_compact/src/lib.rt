@@ -1,4 +1,4 @@
-//! Which runs of a family are merged, and what their merge keeps.
+//! Which runs of a family are merged, and their merge.
 #![tactic(auto)]
 
 mod choosing;
