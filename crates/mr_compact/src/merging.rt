@@ -278,9 +278,9 @@ fn close_last<D: Disk, W: RunOut<D>>(
 /// Merges the versions of a cursor, which stands at the beginning of its list, into runs in the files from `first_file` on,
 /// which is at most 2^63. The cursor and `out` have one direction.
 ///
-/// Per key the versions past `oldest` stay, and the newest of the others; one that the filter doesn't keep becomes a deletion
-/// mark, and at the `bottom` such a one is left out if it is a deletion mark. A run is closed at a key's end past 2,097,152
-/// bytes of entries. One version is held at a time. Answers `Disk`, `Damaged` at an offence of the cursor's files, or `Memory`.
+/// Per key the versions past `oldest` stay, and the newest of the others, which becomes a deletion mark where the filter doesn't
+/// keep it; at the `bottom` it is left out where it is a deletion mark. A run is closed at a key's end past 2,097,152 bytes of
+/// entries. One version is held at a time. Answers `Disk`, `Damaged` at an offence of the cursor's files, or `Memory`.
 pub fn merge_runs<D: Disk, C: Cursor<D>, W: RunOut<D>, F: Filter>(
     alloc: Global,
     disk: &mut D,
