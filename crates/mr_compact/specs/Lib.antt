@@ -1,0 +1,5 @@
+pub mod Levels
+pub mod Passes
+pub mod Kept
+pub mod Merges
+pub mod Writing
