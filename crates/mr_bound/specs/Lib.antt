@@ -1,0 +1,2 @@
+pub mod BoundSelects
+pub mod BoundUpdates
