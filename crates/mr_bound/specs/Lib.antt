@@ -1,2 +1,3 @@
 pub mod BoundSelects
 pub mod BoundUpdates
+pub mod Stamps

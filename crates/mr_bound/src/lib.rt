@@ -3,8 +3,12 @@
 #![tactic(auto)]
 
 mod bound;
+mod stamp;
+mod sums;
+mod updating;
 
 pub use bound::{
     BoundAggregate, BoundAggregateList, BoundColumns, BoundFactor, BoundFactorList, BoundOrder,
     BoundOrderList, BoundSelect, BoundSet, BoundSetList, BoundTerm, BoundTermList, BoundUpdate,
 };
+pub use updating::updated;
