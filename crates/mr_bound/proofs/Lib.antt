@@ -1,1 +1,3 @@
+mod SelectsAgree
 mod StampsFit
+mod UpdatesAgree

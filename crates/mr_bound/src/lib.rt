@@ -2,13 +2,24 @@
 //! names, and what an UPDATE makes of a row.
 #![tactic(auto)]
 
+mod binding_select;
+mod binding_update;
 mod bound;
+mod condition;
+mod laws;
+mod set_checks;
 mod stamp;
 mod sums;
 mod updating;
 
+pub use binding_select::bind_select;
+pub use binding_update::bind_update;
 pub use bound::{
     BoundAggregate, BoundAggregateList, BoundColumns, BoundFactor, BoundFactorList, BoundOrder,
     BoundOrderList, BoundSelect, BoundSet, BoundSetList, BoundTerm, BoundTermList, BoundUpdate,
+};
+pub use laws::{
+    bound_assignments_agree, bound_selects_agree, rows_of_tables_have_stamps,
+    select_refusals_agree, update_refusals_agree,
 };
 pub use updating::updated;
