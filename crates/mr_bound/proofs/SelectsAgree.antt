@@ -1,5 +1,5 @@
 -- A bound SELECT gives what the one that was written gives.
-use Rattle.std.proofs.Common.{◌≡◌, ℕ, List, [], ◌∷◌, map, filter, Bool, true, false, Option, Some, None, Result, Ok, Err, refl, sym, ap, ◌∙◌}
+use Rattle.std.proofs.Common.{◌≡◌, ℕ, List, [], ◌∷◌, map, filter, Bool, Option, Some, None, Result, Ok, Err, refl, sym, ap, ◌∙◌}
 use Rattle.std.proofs.Math.Path.{fun_ext}
 use Rattle.std.specs.Prelude.{⊤, if◌then◌else◌}
 use Rattle.std.specs.List.{list_any}
@@ -19,15 +19,14 @@ use Rattle.mr_types.specs.declared.statement.Aggregate.TheVariants.{Count, Min, 
 use Rattle.mr_types.specs.Refusals.{◌>>=◌, ◌>>◌, refuse_where}
 use Rattle.mr_types.specs.Order.{value_cmp}
 use Rattle.mr_spec.specs.Rows.{kind_at, value_at, place_of}
-use Rattle.mr_spec.specs.Truth.{where_of, truth_of, is_true, is_unknown, known_columns, right_literals}
-use Rattle.mr_spec.specs.Binding.{bound_of, bound_truth}
+use Rattle.mr_spec.specs.Truth.{where_of, is_true, is_unknown, known_columns, right_literals}
 use Rattle.mr_spec.specs.Select.{order_cmp, sorted, limited, shown, selected, select_tests, is_missing_key, has_unknown}
 use Rattle.mr_spec.specs.Select as written
 use Rattle.mr_spec.proofs.Binds.{truth-bound}
 use Rattle.mr_orders.specs.Orders.{selected_of}
 use Rattle.mr_bound.specs.declared.bound.BoundSelect.{BoundSelect}
 use Rattle.mr_bound.specs.BoundRefusals.{behind_forced, refusal_of}
-use Rattle.mr_bound.specs.BoundSelects.{aggregate_at, columns_at, order_at, condition_at, converted_condition, bind_select, keeps, order_by, aggregate_of, shown_at, by_key, selected_at}
+use Rattle.mr_bound.specs.BoundSelects.{aggregate_at, columns_at, order_at, condition_at, bind_select, keeps, order_by, aggregate_of, shown_at, by_key, selected_at}
 
 -- ---- what is listed and how it is ordered
 
@@ -53,7 +52,7 @@ orders_are def order = fun_ext (λ r. fun_ext (λ s. order_is def order r s))
 
 -- ---- which rows are kept
 
-keeps_is : (def : TableDef) (c : Option Expr) (row : Row) → keeps def (condition_at def c) row ≡ (where_of c).keeps def row
+pub keeps_is : (def : TableDef) (c : Option Expr) (row : Row) → keeps def (condition_at def c) row ≡ (where_of c).keeps def row
 keeps_is def None row = refl
 keeps_is def (Some e) row = ap is_true (sym (truth-bound def row e))
 

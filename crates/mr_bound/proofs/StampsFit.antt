@@ -1,11 +1,9 @@
 -- Assignments give no number of more than 64 bits, so a stamp within 64 bits is the stamp.
-use Rattle.std.proofs.Common.{◌≡◌, ℕ, ℤ, pos, negsuc, ◌-◌, ◌^◌, ◌<◌, ◌≤◌, zero, suc, List, [], ◌∷◌, length, refl, sym, ap, subst, arith, Bool, true, false, cond, Option, Some, None, Result, Ok, Err, IfOk, get_or}
-use Rattle.std.specs.Prelude.{not, ⊤, is_some, min, IfSome, if◌then◌else◌, slice_get, slice_set, unwrap_or, nat_lt, drop, take}
+use Rattle.std.proofs.Common.{◌≡◌, ℕ, ℤ, pos, negsuc, ◌^◌, ◌<◌, zero, suc, List, [], ◌∷◌, length, refl, sym, ap, subst, arith, Bool, true, false, cond, Option, Some, None, Result, Ok, Err, IfOk}
+use Rattle.std.specs.Prelude.{not, ⊤, is_some, IfSome, if◌then◌else◌, slice_get, slice_set, unwrap_or, nat_lt, drop, take}
 use Rattle.std.specs.List.{list_all}
 use Rattle.std.specs.Option.{option_map_or}
 use Rattle.std.proofs.lemmas.Bool.Decides.{nat_tests}
-use Rattle.std.proofs.lemmas.Option.{unwrap_or-slice_get}
-use Rattle.std.proofs.lemmas.List.{get_or-set_same, get_or-set_other, set_past}
 use Rattle.mr_lanes.specs.Kernels.{is_low, is_space}
 use Rattle.mr_types.specs.declared.value.Value.{Value}
 use Rattle.mr_types.specs.declared.value.Value.TheVariants.{Null, Number, Text, Bytes}
@@ -17,7 +15,7 @@ use Rattle.mr_types.specs.declared.definition.Ttl.{Ttl}
 use Rattle.mr_types.specs.declared.row.Row.{Row}
 use Rattle.mr_types.specs.Rows.{IsRowOf, IsWanted, IsStampOf}
 use Rattle.mr_types.specs.Refusals.{◌>>=◌, ◌>>◌, refuse_where, some_or, in_turn}
-use Rattle.mr_types.specs.Values.{Sort, Numbers, Texts, Binaries, sort_of, converted, convert_to, is_in_kind, length_of_kind, fitted, is_null, assign_to, whole_number}
+use Rattle.mr_types.specs.Values.{Sort, Numbers, Texts, Binaries, sort_of, converted, convert_to, is_in_kind, length_of_kind, fitted, assign_to}
 use Rattle.mr_spec.specs.NewRows.{number_in, stamp_for}
 use Rattle.mr_spec.specs.Setting.{same_fields, updated_row}
 use Rattle.mr_bound.specs.declared.bound.BoundSet.{BoundSet}

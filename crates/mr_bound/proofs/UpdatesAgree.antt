@@ -1,13 +1,13 @@
 -- A bound UPDATE makes of a row what the one that was written makes of it.
-use Rattle.std.proofs.Common.{◌≡◌, ℕ, ℤ, List, [], ◌∷◌, map, Bool, true, false, Option, Some, None, Result, Ok, Err, refl, sym, ap, ◌∙◌}
+use Rattle.std.proofs.Common.{◌≡◌, ℕ, List, [], ◌∷◌, map, Bool, true, false, Option, Some, None, Result, Ok, Err, refl, sym, ap, ◌∙◌}
 use Rattle.std.specs.Prelude.{⊤, ◌+ℤ◌, ◌*ℤ◌, neg_ℤ, if◌then◌else◌, ◌||◌, ◌&&◌, is_none, unwrap_or, slice_get, slice_set}
 use Rattle.std.specs.List.{list_any}
 use Rattle.std.specs.Option.{option_map_or, option_and_then}
 use Rattle.mr_types.specs.declared.value.Value.{Value}
 use Rattle.mr_types.specs.declared.value.Value.TheVariants.{Null}
-use Rattle.mr_types.specs.declared.kind.ColumnType.{ColumnType}
 use Rattle.mr_types.specs.declared.definition.ColumnDef.{ColumnDef}
 use Rattle.mr_types.specs.declared.definition.TableDef.{TableDef}
+use Rattle.mr_types.specs.declared.row.Row.{Row}
 use Rattle.mr_types.specs.declared.expr.Expr.{Expr}
 use Rattle.mr_types.specs.declared.statement.Factor.{Factor}
 use Rattle.mr_types.specs.declared.statement.Factor.TheVariants.{Column, Literal}
@@ -21,11 +21,11 @@ use Rattle.mr_spec.specs.Rows.{place_of}
 use Rattle.mr_spec.specs.Truth.{where_of, is_unknown, known_columns, right_literals}
 use Rattle.mr_spec.specs.Setting.{combined, with_item, update_tests, is_wrong_sum, has_unknown_to, is_unknown_factor, is_default_to, lacks_default}
 use Rattle.mr_spec.specs.Setting as written
-use Rattle.mr_bound.specs.declared.bound.BoundTerm.{BoundTerm}
 use Rattle.mr_bound.specs.declared.bound.BoundUpdate.{BoundUpdate}
 use Rattle.mr_bound.specs.BoundRefusals.{refusal_of}
-use Rattle.mr_bound.specs.BoundSelects.{condition_at, converted_condition}
-use Rattle.mr_bound.specs.BoundUpdates.{factor_at, term_at, default_of, sum_at, set_at, bind_update, factor_in, product_of, with_term, sum_of, with_set}
+use Rattle.mr_bound.specs.BoundSelects.{condition_at, keeps}
+use Rattle.mr_bound.proofs.SelectsAgree.{keeps_is}
+use Rattle.mr_bound.specs.BoundUpdates.{factor_at, term_at, set_at, bind_update, factor_in, product_of, with_term, sum_of, with_set}
 
 same_behind : {A B : Type 0} (r : Result A ℕ) (f g : A → Result B ℕ) → ((x : A) → f x ≡ g x) → (r >>= f) ≡ (r >>= g)
 same_behind (Ok x) f g same = same x
@@ -165,3 +165,8 @@ pub refusals_agree : (def : TableDef) (set : List SetItem) (c : Option Expr) →
 refusals_agree def set c =
     tests_are (refuse_where 1054 (some_unknown def set)) (known_columns def (where_of c)) (refuse_where 1366 (list_any (λ s. is_wrong_sum def s.to) set)) (right_literals def (where_of c)) (refuse_where 1364 (list_any (λ s. is_default_to s.to && lacks_default def s.column) set))
     (condition_at def c) (λ condition. record { set = map (set_at def) set; condition = condition })
+
+-- ---- the rows
+
+pub rows_agree : (def : TableDef) (set : List SetItem) (c : Option Expr) (u : BoundUpdate) (row : Row) → bind_update def set c ≡ Ok u → keeps def u.condition row ≡ (where_of c).keeps def row
+rows_agree def set c u row e = ap (λ (u : BoundUpdate). keeps def u.condition row) (sym (bound_is def set c u e).1) ∙ keeps_is def c row

@@ -1,4 +1,4 @@
-//! SELECT and UPDATE with the places of columns in the place of their names.
+//! SELECT and UPDATE with the places of columns, counted from 0, in the place of their names.
 
 use mr_base::Blob;
 use mr_spec::Bound;
@@ -13,6 +13,7 @@ pub enum BoundAggregate {
     Max(u8),
 }
 
+/// The aggregates of one reply, in the order of the list.
 pub type BoundAggregateList = Items<BoundAggregate>;
 
 /// What SELECT gives: of each row the columns at these places, or one row of aggregates.
@@ -29,6 +30,7 @@ pub struct BoundOrder {
     pub descending: bool,
 }
 
+/// ORDER BY, the first column before the others.
 pub type BoundOrderList = Items<BoundOrder>;
 
 /// SELECT, bound to a table: `skip` rows are left out in front, and then at most `most` given.
@@ -41,13 +43,14 @@ pub struct BoundSelect {
     pub most: Option<u64>,
 }
 
-/// A factor of a product.
+/// A factor of a product: the value of a column so far, or a literal.
 #[derive(Drop)]
 pub enum BoundFactor {
     Column(u8),
     Literal(Value),
 }
 
+/// A product, multiplied from left to right.
 pub type BoundFactorList = Items<BoundFactor>;
 
 /// A product in a sum, subtracted where `minus`.
@@ -57,15 +60,17 @@ pub struct BoundTerm {
     pub factors: BoundFactorList,
 }
 
+/// A sum, added up from left to right.
 pub type BoundTermList = Items<BoundTerm>;
 
-/// One assignment; a DEFAULT is one term of one literal.
+/// One assignment to the column at a place; a DEFAULT is one term of one literal.
 #[derive(Drop)]
 pub struct BoundSet {
     pub column: u8,
     pub to: BoundTermList,
 }
 
+/// SET, carried out from left to right.
 pub type BoundSetList = Items<BoundSet>;
 
 /// SET and WHERE of an UPDATE, bound to a table.

@@ -15,7 +15,7 @@ ghost use Rattle.mr_spec.specs.Setting.{with_item, update_tests};
 ghost use Rattle.mr_orders.specs.Orders.{selected_of};
 ghost use Rattle.mr_bound.specs.declared.bound.BoundSelect.{BoundSelect};
 ghost use Rattle.mr_bound.specs.declared.bound.BoundUpdate.{BoundUpdate};
-ghost use Rattle.mr_bound.specs.BoundSelects.{bind_select, selected_at};
+ghost use Rattle.mr_bound.specs.BoundSelects.{bind_select, keeps, selected_at};
 ghost use Rattle.mr_bound.specs.BoundRefusals.{behind_forced, refusal_of};
 ghost use Rattle.mr_bound.specs.BoundUpdates.{bind_update, with_set};
 ghost use Rattle.mr_bound.specs.Stamps.{HasStamp};
@@ -35,6 +35,11 @@ pub fn select_refusals_agree()
 /// make of them.
 pub fn bound_assignments_agree()
     ensures { (def : TableDef) (set : List SetItem) (c : Option Expr) (u : BoundUpdate) (fields : List Value) → bind_update def set c ≡ Ok u → in_turn (with_set def) fields u.set ≡ in_turn (with_item def) fields set }
+{}
+
+/// The bound condition of an UPDATE chooses the rows that the written one chooses.
+pub fn bound_updates_choose_the_same_rows()
+    ensures { (def : TableDef) (set : List SetItem) (c : Option Expr) (u : BoundUpdate) (row : Row) → bind_update def set c ≡ Ok u → keeps def u.condition row ≡ (where_of c).keeps def row }
 {}
 
 /// An UPDATE is bound exactly where it passes its tests, and it is refused by the first that it

@@ -19,7 +19,7 @@ pub use bound::{
     BoundOrderList, BoundSelect, BoundSet, BoundSetList, BoundTerm, BoundTermList, BoundUpdate,
 };
 pub use laws::{
-    bound_assignments_agree, bound_selects_agree, rows_of_tables_have_stamps,
-    select_refusals_agree, update_refusals_agree,
+    bound_assignments_agree, bound_selects_agree, bound_updates_choose_the_same_rows,
+    rows_of_tables_have_stamps, select_refusals_agree, update_refusals_agree,
 };
 pub use updating::updated;

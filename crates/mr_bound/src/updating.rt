@@ -113,7 +113,7 @@ pub fn updated(
     update: &BoundUpdate,
 ) -> Result<Option<Row>, Refused>
     ensures is { HasStamp def.now row.now → Answers result (updated_in def.now row.now update.now) }
-    ensures whatever_stands_there { Answers result (updated_within def.now row.now update.now) }
+    ensures of_any_row { Answers result (updated_within def.now row.now update.now) }
 {
     row_after(alloc, def, row, update)
 }

@@ -1,4 +1,4 @@
-use Rattle.std.proofs.Common.{◌≡◌, map, List, Bool, true, false, Option, Result, Ok, Err, sym, ap, ◌∙◌}
+use Rattle.std.proofs.Common.{◌≡◌, map, List, Bool, true, false, Option, Result, Ok, Err, ap, ◌∙◌}
 use Rattle.std.specs.Prelude.{ℕ, ⊤, ◌||◌, ◌&&◌}
 use Rattle.std.specs.List.{list_any}
 use Rattle.mr_types.specs.declared.definition.TableDef.{TableDef}
