@@ -1,0 +1,3 @@
+mod SelectsAgree
+mod StampsFit
+mod UpdatesAgree

@@ -1,0 +1,4 @@
+pub mod BoundRefusals
+pub mod BoundSelects
+pub mod BoundUpdates
+pub mod Stamps
