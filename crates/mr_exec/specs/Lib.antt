@@ -1,3 +1,4 @@
 pub mod Sources
 pub mod Lists
 pub mod Gathering
+pub mod Holding

@@ -6,7 +6,7 @@ ghost use Rattle.mr_exec.specs.Sources.{OrMemory, EndsBy};
 ghost use Rattle.mr_exec.specs.Gathering.{StandsFor, found_in};
 
 use crate::found::{Found, find_each, none_found};
-use crate::sorting::hold;
+use crate::held::Held;
 use crate::source::RowSource;
 use crate::steps::next_kept;
 use mr_base::Stop;
@@ -16,7 +16,7 @@ use mr_types::{Row, TableDef};
 use std::alloc::Global;
 
 /// The rows to come that WHERE keeps, or some of which so many as are looked at are the first in the
-/// order of the reply. Only rows that WHERE keeps are copied.
+/// order of the reply. Only rows that WHERE keeps are copied, and none that stands behind those.
 pub(crate) fn kept_rows<S: RowSource>(
     alloc: Global,
     source: &mut S,
@@ -25,6 +25,7 @@ pub(crate) fn kept_rows<S: RowSource>(
     order: &[BoundOrder],
     reach: Option<u64>,
 ) -> Result<Vec<Row>, Stop>
+    requires { def.now ≡ S.def source.old }
     ensures reaches { S.reaches source.old source.new }
     ensures stops { IfErr result (OrMemory (S.stops source.old source.new)) }
     ensures ends { S.stopped source.old ≡ None → IfErr result (EndsBy (S.stopped source.new)) }
@@ -32,12 +33,14 @@ pub(crate) fn kept_rows<S: RowSource>(
     ensures over { S.told source.old → IfOk result (λ kept. S.told source.new × (S.rows source.new ≡ []) × (is_some (S.current source.new) ≡ false)) }
     ensures kept { S.told source.old → IfOk result (λ kept. StandsFor (reply_order def.now order.now) reach kept.items (filter (kept_in (S.def source.old) condition.now) (S.rows source.old))) }
 {
-    let mut kept = Vec::new(alloc);
+    let mut held = Held::new(alloc);
     'walk: while next_kept::<S>(source, condition)? {
-        let row = source.row(alloc)?;
-        hold(def, order, reach, &mut kept, row)?;
+        if !held.passes::<S>(source, def, order, reach) {
+            let row = source.row(alloc)?;
+            held.add(def, order, reach, row)?;
+        }
     }
-    Ok(kept)
+    Ok(held.rows)
 }
 
 /// What aggregates find in the rows to come that WHERE keeps. Each holds one row at the most.

@@ -3,6 +3,7 @@
 
 mod found;
 mod gathering;
+mod held;
 mod lent;
 mod list_rows;
 mod listing;

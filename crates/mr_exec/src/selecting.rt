@@ -50,6 +50,7 @@ fn listed<S: RowSource>(
     select: &BoundSelect,
     places: &[u8],
 ) -> Result<RowTable, Stop>
+    requires { def.now ≡ S.def source.old }
     ensures reaches { S.reaches source.old source.new }
     ensures stops { IfErr result (OrMemory (S.stops source.old source.new)) }
     ensures ends { S.stopped source.old ≡ None → IfErr result (EndsBy (S.stopped source.new)) }
