@@ -45,7 +45,6 @@ fn committed_def(alloc: Global, engine: &Engine, name: &[u8]) -> Result<Option<T
 }
 
 /// 1146; then the snapshot is fixed and the table used; then 1412.
-#[tactic(auto, using(crate::proofs::Ascent::opened_ascends))]
 fn open_table(alloc: Global, engine: &mut Engine, name: &[u8]) -> Result<TableDef, Refused>
     ensures opens { Opens (world_in engine.old) (world_in engine.new) name.now result }
     ensures kept { OnOk result (IsTrue (keeps_view engine.new)) }
