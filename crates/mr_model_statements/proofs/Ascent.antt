@@ -1,5 +1,5 @@
 -- The rows that a session sees of a table that it has opened ascend.
-use Rattle.std.proofs.Common.{◌≡◌, ℕ, false, List, [], length, drop, Option, Some, None, option_map, sym, ◌∙◌, ap, subst}
+use Rattle.std.proofs.Common.{◌≡◌, ℕ, false, List, [], length, drop, Option, Some, None, option_map, refl, sym, ◌∙◌, ap, subst}
 use Rattle.std.specs.List.{list_any}
 use Rattle.std.specs.Option.{option_map_or}
 use Rattle.mr_types.specs.declared.definition.TableDef.{TableDef}
