@@ -1,4 +1,4 @@
--- A run of one block with one deletion and one put, byte for byte.
+-- A run of two blocks, one of a deletion and one of a put, byte for byte.
 use Rattle.std.proofs.Common.{◌≡◌, ℕ, List, [], ◌∷◌, ◌++◌, refl, Ok, Err, Some, None, take}
 use Rattle.mr_iter.specs.Versions.{Version, as_version}
 use Rattle.mr_run_file.specs.Format.{run_bytes}
