@@ -4,7 +4,6 @@ ghost use Rattle.std.specs.Prelude.{◌≡◌, IfOk, length};
 ghost use Rattle.mr_types.specs.Refusals.{in_turn};
 ghost use Rattle.mr_model_changes.specs.Leaving.{leaves, start_among};
 ghost use Rattle.mr_model_changes.specs.Telling.{scene_in, Tells};
-ghost use Rattle.mr_orders.specs.Orders.{IsAscending};
 ghost use Rattle.mr_spec.specs.Truth.{where_of};
 ghost use Rattle.mr_spec.specs.Changes.{inserted as row_inserted, replaced as row_replaced, deleted as row_deleted, updated as row_updated, insert_changes as inserts_of, replace_changes as replaces_of, chosen as rows_chosen, update_changes as updates_of, delete_changes as deletes_of};
 
@@ -30,7 +29,6 @@ fn all_inserted(
     start: Progress,
     tuples: &[Tuple],
 ) -> Result<Progress, Failed>
-    requires rising { IsAscending scene.now.def.now start.rows }
     ensures { Tells result (in_turn (row_inserted (scene_in scene.now) at.now) start tuples.now) }
 {
     let mut so_far = start;
@@ -47,7 +45,6 @@ pub fn insert_changes(
     statement: &Insert,
     start: Progress,
 ) -> Result<Progress, Failed>
-    requires rising { IsAscending scene.now.def.now start.rows }
     ensures { Tells result (inserts_of (scene_in scene.now) statement.now start) }
 {
     let at = told(start.next, insert_tests(alloc, scene.def, statement))?;
@@ -69,7 +66,6 @@ pub fn insert_one(
     next: u64,
 ) -> Result<Written, Failed>
     requires one { length statement.now.rows ≡ 1 }
-    requires rising { IsAscending scene.now.def.now rows.now }
     ensures { Tells result (leaves (inserts_of (scene_in scene.now) statement.now (start_among rows.now next))) }
 {
     let at = told(next, insert_tests(alloc, scene.def, statement))?;
@@ -84,7 +80,6 @@ fn all_replaced(
     start: Progress,
     tuples: &[Tuple],
 ) -> Result<Progress, Failed>
-    requires rising { IsAscending scene.now.def.now start.rows }
     ensures { Tells result (in_turn (row_replaced (scene_in scene.now) at.now) start tuples.now) }
 {
     let mut so_far = start;
@@ -101,7 +96,6 @@ pub fn replace_changes(
     statement: &Insert,
     start: Progress,
 ) -> Result<Progress, Failed>
-    requires rising { IsAscending scene.now.def.now start.rows }
     ensures { Tells result (replaces_of (scene_in scene.now) statement.now start) }
 {
     let at = told(start.next, insert_tests(alloc, scene.def, statement))?;
@@ -136,7 +130,6 @@ fn all_updated(
     start: Progress,
     rows: &[Row],
 ) -> Result<Progress, Failed>
-    requires rising { IsAscending scene.now.def.now start.rows }
     ensures { Tells result (in_turn (row_updated (scene_in scene.now) set.now) start rows.now) }
 {
     let mut so_far = start;
@@ -154,7 +147,6 @@ pub fn update_changes(
     condition: &Option<Expr>,
     start: Progress,
 ) -> Result<Progress, Failed>
-    requires rising { IsAscending scene.now.def.now start.rows }
     ensures { Tells result (updates_of (scene_in scene.now) set.now (where_of condition.now) start) }
 {
     told(start.next, update_tests(alloc, scene.def, set, condition))?;
@@ -168,7 +160,6 @@ fn all_deleted(
     start: Progress,
     rows: &[Row],
 ) -> Result<Progress, Failed>
-    requires rising { IsAscending scene.now.def.now start.rows }
     ensures { Tells result (in_turn (row_deleted (scene_in scene.now)) start rows.now) }
 {
     let mut so_far = start;
@@ -186,7 +177,6 @@ pub fn delete_changes(
     condition: &Option<Expr>,
     start: Progress,
 ) -> Result<Progress, Failed>
-    requires rising { IsAscending scene.now.def.now start.rows }
     ensures { Tells result (deletes_of (scene_in scene.now) (where_of condition.now) start) }
 {
     told(start.next, known_columns(scene.def, condition))?;

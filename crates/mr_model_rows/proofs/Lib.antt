@@ -1,5 +1,3 @@
-pub mod Ascent
 pub mod Moved
 pub mod Named
-pub mod Searching
 pub mod Weighed

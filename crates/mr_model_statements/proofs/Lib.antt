@@ -1,2 +1,1 @@
-pub mod Ascent
 pub mod Left
