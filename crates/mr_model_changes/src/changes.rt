@@ -4,6 +4,7 @@ ghost use Rattle.std.specs.Prelude.{◌≡◌, IfOk, length};
 ghost use Rattle.mr_types.specs.Refusals.{in_turn};
 ghost use Rattle.mr_model_changes.specs.Leaving.{leaves, start_among};
 ghost use Rattle.mr_model_changes.specs.Telling.{scene_in, Tells};
+ghost use Rattle.mr_orders.specs.Orders.{IsAscending};
 ghost use Rattle.mr_spec.specs.Truth.{where_of};
 ghost use Rattle.mr_spec.specs.Changes.{inserted as row_inserted, replaced as row_replaced, deleted as row_deleted, updated as row_updated, insert_changes as inserts_of, replace_changes as replaces_of, chosen as rows_chosen, update_changes as updates_of, delete_changes as deletes_of};
 
@@ -29,6 +30,7 @@ fn all_inserted(
     start: Progress,
     tuples: &[Tuple],
 ) -> Result<Progress, Failed>
+    requires rising { IsAscending scene.now.def.now start.rows }
     ensures { Tells result (in_turn (row_inserted (scene_in scene.now) at.now) start tuples.now) }
 {
     let mut so_far = start;
@@ -45,6 +47,7 @@ pub fn insert_changes(
     statement: &Insert,
     start: Progress,
 ) -> Result<Progress, Failed>
+    requires rising { IsAscending scene.now.def.now start.rows }
     ensures { Tells result (inserts_of (scene_in scene.now) statement.now start) }
 {
     let at = told(start.next, insert_tests(alloc, scene.def, statement))?;
@@ -66,6 +69,7 @@ pub fn insert_one(
     next: u64,
 ) -> Result<Written, Failed>
     requires one { length statement.now.rows ≡ 1 }
+    requires rising { IsAscending scene.now.def.now rows.now }
     ensures { Tells result (leaves (inserts_of (scene_in scene.now) statement.now (start_among rows.now next))) }
 {
     let at = told(next, insert_tests(alloc, scene.def, statement))?;
@@ -80,6 +84,7 @@ fn all_replaced(
     start: Progress,
     tuples: &[Tuple],
 ) -> Result<Progress, Failed>
+    requires rising { IsAscending scene.now.def.now start.rows }
     ensures { Tells result (in_turn (row_replaced (scene_in scene.now) at.now) start tuples.now) }
 {
     let mut so_far = start;
@@ -96,6 +101,7 @@ pub fn replace_changes(
     statement: &Insert,
     start: Progress,
 ) -> Result<Progress, Failed>
+    requires rising { IsAscending scene.now.def.now start.rows }
     ensures { Tells result (replaces_of (scene_in scene.now) statement.now start) }
 {
     let at = told(start.next, insert_tests(alloc, scene.def, statement))?;
@@ -130,6 +136,7 @@ fn all_updated(
     start: Progress,
     rows: &[Row],
 ) -> Result<Progress, Failed>
+    requires rising { IsAscending scene.now.def.now start.rows }
     ensures { Tells result (in_turn (row_updated (scene_in scene.now) set.now) start rows.now) }
 {
     let mut so_far = start;
@@ -147,6 +154,7 @@ pub fn update_changes(
     condition: &Option<Expr>,
     start: Progress,
 ) -> Result<Progress, Failed>
+    requires rising { IsAscending scene.now.def.now start.rows }
     ensures { Tells result (updates_of (scene_in scene.now) set.now (where_of condition.now) start) }
 {
     told(start.next, update_tests(alloc, scene.def, set, condition))?;
@@ -160,6 +168,7 @@ fn all_deleted(
     start: Progress,
     rows: &[Row],
 ) -> Result<Progress, Failed>
+    requires rising { IsAscending scene.now.def.now start.rows }
     ensures { Tells result (in_turn (row_deleted (scene_in scene.now)) start rows.now) }
 {
     let mut so_far = start;
@@ -177,6 +186,7 @@ pub fn delete_changes(
     condition: &Option<Expr>,
     start: Progress,
 ) -> Result<Progress, Failed>
+    requires rising { IsAscending scene.now.def.now start.rows }
     ensures { Tells result (deletes_of (scene_in scene.now) (where_of condition.now) start) }
 {
     told(start.next, known_columns(scene.def, condition))?;

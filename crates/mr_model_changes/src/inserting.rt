@@ -5,6 +5,7 @@ ghost use Rattle.mr_types.specs.declared.row.Change.TheVariants as kinds;
 ghost use Rattle.mr_model_changes.specs.Leaving.{leaves, start_among};
 ghost use Rattle.mr_model_changes.specs.Telling.{scene_in, Tells};
 ghost use Rattle.mr_model_changes.specs.Writing.{exchanged as row_exchanged};
+ghost use Rattle.mr_orders.specs.Orders.{IsAscending};
 ghost use Rattle.mr_spec.specs.Rows.{clashes as clash, visible as seen_in};
 ghost use Rattle.mr_spec.specs.Changes.{inserted as row_inserted, replaced as row_replaced};
 
@@ -38,7 +39,9 @@ pub(crate) fn inserted(
     so_far: Progress,
     tuple: &[ItemValue],
 ) -> Result<Progress, Failed>
-    ensures { Tells result (row_inserted (scene_in scene.now) at.now so_far tuple.now) }
+    requires rising { IsAscending scene.now.def.now so_far.rows }
+    ensures tells { Tells result (row_inserted (scene_in scene.now) at.now so_far tuple.now) }
+    ensures rising { IfOk result (λ g. IsAscending scene.now.def.now g.rows) }
 {
     let fields = told(so_far.next, fields_of(alloc, scene.def, at, tuple))?;
     let new = new_row(scene, so_far.next, fields)?;
@@ -58,6 +61,7 @@ pub(crate) fn inserted_among(
     next: u64,
     tuple: &[ItemValue],
 ) -> Result<Written, Failed>
+    requires rising { IsAscending scene.now.def.now rows.now }
     ensures { Tells result (leaves (row_inserted (scene_in scene.now) at.now (start_among rows.now next) tuple.now)) }
 {
     let fields = told(next, fields_of(alloc, scene.def, at, tuple))?;
@@ -118,7 +122,9 @@ fn exchanged(
     gone: &[Row],
     so_far: Progress,
 ) -> Result<Progress, Failed>
-    ensures { Tells result (row_exchanged (scene_in scene.now) new.now gone.now so_far) }
+    requires rising { IsAscending scene.now.def.now so_far.rows }
+    ensures tells { Tells result (row_exchanged (scene_in scene.now) new.now gone.now so_far) }
+    ensures rising { IfOk result (λ g. IsAscending scene.now.def.now g.rows) }
 {
     let made = replacement(alloc, scene.def, gone, new)?;
     let drawn = drawn(scene.def, so_far)?;
@@ -136,7 +142,9 @@ pub(crate) fn replaced(
     so_far: Progress,
     tuple: &[ItemValue],
 ) -> Result<Progress, Failed>
-    ensures { Tells result (row_replaced (scene_in scene.now) at.now so_far tuple.now) }
+    requires rising { IsAscending scene.now.def.now so_far.rows }
+    ensures tells { Tells result (row_replaced (scene_in scene.now) at.now so_far tuple.now) }
+    ensures rising { IfOk result (λ g. IsAscending scene.now.def.now g.rows) }
 {
     let fields = told(so_far.next, fields_of(alloc, scene.def, at, tuple))?;
     let new = new_row(scene, so_far.next, fields)?;

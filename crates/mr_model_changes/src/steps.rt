@@ -1,19 +1,20 @@
 //! What the rows of all writing statements go through.
 
-ghost use Rattle.std.specs.Prelude.{◌≡◌, ◌∷◌, [], fold, IfOk};
+ghost use Rattle.std.specs.Prelude.{◌≡◌, ◌&&◌, not, ◌∷◌, [], fold, IfOk};
 ghost use Rattle.std.specs.List.{list_any};
 ghost use Rattle.mr_types.specs.Refusals.{refuse_where};
 ghost use Rattle.mr_types.specs.Values.{Answers};
 ghost use Rattle.mr_model_changes.specs.Telling.{scene_in};
+ghost use Rattle.mr_orders.specs.Orders.{IsAscending};
 ghost use Rattle.mr_spec.specs.Claims.{has_claim_in as claim_in, claimed as is_claimed};
 ghost use Rattle.mr_spec.specs.NewRows.{drawn as number_drawn};
 ghost use Rattle.mr_spec.specs.Progress.{seen_rows as rows_seen, advanced as gone_on};
-ghost use Rattle.mr_spec.specs.Rows.{clashes as clash, rows_after as rows_behind, visible as seen_in, without as left_without};
+ghost use Rattle.mr_spec.specs.Rows.{clashes as clash, rows_after as rows_behind, same_primary as has_primary, is_visible as is_seen, visible as seen_in, without as left_without};
 
 use crate::new_rows::next_behind;
 use crate::scene::Scene;
 use mr_base::Memory;
-use mr_model_rows::{clashes, has_claim_in, is_visible, rows_after, same_primary, visible};
+use mr_model_rows::{clashes, has_claim_in, is_visible, rows_after, same_primary, search, visible};
 use mr_spec::{Progress, RowList};
 use mr_types::{Change, ChangeList, Refused, Row, TableDef};
 use std::alloc::Global;
@@ -27,7 +28,8 @@ pub(crate) fn seen_rows(alloc: Global, scene: &Scene, so_far: &Progress) -> Resu
 
 /// The number drawn, where the table has hidden ones.
 pub(crate) fn drawn(def: &TableDef, so_far: Progress) -> Result<Progress, Memory>
-    ensures { IfOk result (λ g. g ≡ number_drawn def.now so_far) }
+    ensures drawn { IfOk result (λ g. g ≡ number_drawn def.now so_far) }
+    ensures rows { IfOk result (λ g. g.rows ≡ so_far.rows) }
 {
     let mut so_far = so_far;
     so_far.next = next_behind(def, so_far.next)?;
@@ -54,8 +56,26 @@ pub(crate) fn claimed(scene: &Scene, made: &[Change]) -> Result<(), Refused>
     Ok(())
 }
 
-/// Whether one of these rows that is visible has the values of one of the row's keys.
-fn is_taken_visibly(scene: &Scene, new: &Row, rows: &[Row]) -> bool
+/// Whether a secondary key is unique.
+fn has_unique_key(def: &TableDef) -> bool
+    ensures { result ≡ list_any (λ k. k.unique) def.now.secondary }
+{
+    def.secondary.as_slice().iter().any(|key| key.unique)
+}
+
+/// Whether the row with the primary key of this one is visible.
+fn is_key_taken(scene: &Scene, new: &Row, rows: &[Row]) -> bool
+    requires rising { IsAscending scene.now.def.now rows.now }
+    ensures { result ≡ list_any (has_primary scene.now.def.now new.now) (seen_in scene.now.def.now scene.now.moment rows.now) }
+{
+    match search(scene.def, new, rows) {
+        Ok(at) => is_visible(scene.def, scene.moment, &rows[at]),
+        Err(_) => false,
+    }
+}
+
+/// Whether one of these rows that is visible has the values of one of the row's keys, by a look at each.
+fn is_some_key_taken(scene: &Scene, new: &Row, rows: &[Row]) -> bool
     ensures { result ≡ list_any (clash scene.now.def.now new.now) (seen_in scene.now.def.now scene.now.moment rows.now) }
 {
     for row in rows {
@@ -66,8 +86,23 @@ fn is_taken_visibly(scene: &Scene, new: &Row, rows: &[Row]) -> bool
     false
 }
 
+/// Whether one of these rows that is visible has the values of one of the row's keys. Without a unique
+/// secondary key the primary key is looked up.
+#[tactic(auto, using(crate::proofs::Keys::plain_clash))]
+fn is_taken_visibly(scene: &Scene, new: &Row, rows: &[Row]) -> bool
+    requires rising { IsAscending scene.now.def.now rows.now }
+    ensures { result ≡ list_any (clash scene.now.def.now new.now) (seen_in scene.now.def.now scene.now.moment rows.now) }
+{
+    if has_unique_key(scene.def) {
+        is_some_key_taken(scene, new, rows)
+    } else {
+        is_key_taken(scene, new, rows)
+    }
+}
+
 /// 1062 where one of these rows that is visible has the values of one of the row's keys.
 pub(crate) fn is_free(scene: &Scene, new: &Row, rows: &[Row]) -> Result<(), Refused>
+    requires rising { IsAscending scene.now.def.now rows.now }
     ensures { Answers result (refuse_where 1062 (list_any (clash scene.now.def.now new.now) (seen_in scene.now.def.now scene.now.moment rows.now))) }
 {
     if is_taken_visibly(scene, new, rows) {
@@ -76,9 +111,28 @@ pub(crate) fn is_free(scene: &Scene, new: &Row, rows: &[Row]) -> Result<(), Refu
     Ok(())
 }
 
+/// Whether a row is visible and has another primary key than `old`.
+fn is_other_visible(scene: &Scene, old: &Row, row: &Row) -> bool
+    ensures { result ≡ (is_seen scene.now.def.now scene.now.moment row.now && not (has_primary scene.now.def.now old.now row.now)) }
+{
+    is_visible(scene.def, scene.moment, row) && !same_primary(scene.def, old, row)
+}
+
+/// Whether the row with the primary key of this one is visible, and another than the one with that of
+/// `old`.
+fn is_key_taken_beside(scene: &Scene, old: &Row, new: &Row, rows: &[Row]) -> bool
+    requires rising { IsAscending scene.now.def.now rows.now }
+    ensures { result ≡ list_any (has_primary scene.now.def.now new.now) (left_without scene.now.def.now old.now (seen_in scene.now.def.now scene.now.moment rows.now)) }
+{
+    match search(scene.def, new, rows) {
+        Ok(at) => is_other_visible(scene, old, &rows[at]),
+        Err(_) => false,
+    }
+}
+
 /// Whether one of these rows that is visible, but for the one with the key of `old`, has the values of
-/// one of the row's keys.
-fn is_taken_beside(scene: &Scene, old: &Row, new: &Row, rows: &[Row]) -> bool
+/// one of the row's keys, by a look at each.
+fn is_some_key_taken_beside(scene: &Scene, old: &Row, new: &Row, rows: &[Row]) -> bool
     ensures { result ≡ list_any (clash scene.now.def.now new.now) (left_without scene.now.def.now old.now (seen_in scene.now.def.now scene.now.moment rows.now)) }
 {
     for row in rows {
@@ -92,6 +146,20 @@ fn is_taken_beside(scene: &Scene, old: &Row, new: &Row, rows: &[Row]) -> bool
     false
 }
 
+/// Whether one of these rows that is visible, but for the one with the key of `old`, has the values of
+/// one of the row's keys. Without a unique secondary key the primary key is looked up.
+#[tactic(auto, using(crate::proofs::Keys::plain_clash))]
+fn is_taken_beside(scene: &Scene, old: &Row, new: &Row, rows: &[Row]) -> bool
+    requires rising { IsAscending scene.now.def.now rows.now }
+    ensures { result ≡ list_any (clash scene.now.def.now new.now) (left_without scene.now.def.now old.now (seen_in scene.now.def.now scene.now.moment rows.now)) }
+{
+    if has_unique_key(scene.def) {
+        is_some_key_taken_beside(scene, old, new, rows)
+    } else {
+        is_key_taken_beside(scene, old, new, rows)
+    }
+}
+
 /// 1062 where one of these rows that is visible, but for the one with the key of `old`, has the values
 /// of one of the row's keys.
 pub(crate) fn is_free_beside(
@@ -100,6 +168,7 @@ pub(crate) fn is_free_beside(
     new: &Row,
     rows: &[Row],
 ) -> Result<(), Refused>
+    requires rising { IsAscending scene.now.def.now rows.now }
     ensures { Answers result (refuse_where 1062 (list_any (clash scene.now.def.now new.now) (left_without scene.now.def.now old.now (seen_in scene.now.def.now scene.now.moment rows.now)))) }
 {
     if is_taken_beside(scene, old, new, rows) {
@@ -124,7 +193,9 @@ fn rows_after_all(
     rows: RowList,
     made: &[Change],
 ) -> Result<RowList, Memory>
-    ensures { IfOk result (λ all. all ≡ fold (rows_behind def.now) rows made.now) }
+    requires rising { IsAscending def.now rows }
+    ensures rows { IfOk result (λ all. all ≡ fold (rows_behind def.now) rows made.now) }
+    ensures rising { IfOk result (λ all. IsAscending def.now all) }
 {
     let mut all = rows;
     for change in made {
@@ -142,7 +213,9 @@ pub(crate) fn advanced(
     count: u64,
     so_far: Progress,
 ) -> Result<Progress, Memory>
-    ensures { IfOk result (λ g. g ≡ gone_on (scene_in scene.now) made count so_far) }
+    requires rising { IsAscending scene.now.def.now so_far.rows }
+    ensures advanced { IfOk result (λ g. g ≡ gone_on (scene_in scene.now) made count so_far) }
+    ensures rising { IfOk result (λ g. IsAscending scene.now.def.now g.rows) }
 {
     let rows = rows_after_all(alloc, scene.def, so_far.rows, made.as_slice())?;
     let Some(count) = so_far.count.checked_add(count) else {

@@ -5,6 +5,7 @@ ghost use Rattle.mr_types.specs.declared.row.Change.TheVariants as kinds;
 ghost use Rattle.mr_types.specs.Refusals.{in_turn};
 ghost use Rattle.mr_types.specs.Values.{Answers};
 ghost use Rattle.mr_model_changes.specs.Telling.{scene_in, Tells};
+ghost use Rattle.mr_orders.specs.Orders.{IsAscending};
 ghost use Rattle.mr_spec.specs.Changes.{deleted as row_deleted, moved as row_moved, updated as row_updated};
 ghost use Rattle.mr_spec.specs.Setting.{with_item as and_item};
 
@@ -33,7 +34,9 @@ pub(crate) fn deleted(
     so_far: Progress,
     old: &Row,
 ) -> Result<Progress, Failed>
-    ensures { Tells result (row_deleted (scene_in scene.now) so_far old.now) }
+    requires rising { IsAscending scene.now.def.now so_far.rows }
+    ensures tells { Tells result (row_deleted (scene_in scene.now) so_far old.now) }
+    ensures rising { IfOk result (λ g. IsAscending scene.now.def.now g.rows) }
 {
     let made = alone(alloc, delete_of(alloc, scene.def, old)?)?;
     told(so_far.next, claimed(scene, made.as_slice()))?;
@@ -60,7 +63,9 @@ fn moved(
     old: &Row,
     new: &Row,
 ) -> Result<Progress, Failed>
-    ensures { Tells result (row_moved (scene_in scene.now) so_far old.now new.now) }
+    requires rising { IsAscending scene.now.def.now so_far.rows }
+    ensures tells { Tells result (row_moved (scene_in scene.now) so_far old.now new.now) }
+    ensures rising { IfOk result (λ g. IsAscending scene.now.def.now g.rows) }
 {
     let made = alone(alloc, update_of(alloc, scene.def, old, new)?)?;
     told(so_far.next, claimed(scene, made.as_slice()))?;
@@ -95,7 +100,9 @@ pub(crate) fn updated(
     so_far: Progress,
     old: &Row,
 ) -> Result<Progress, Failed>
-    ensures { Tells result (row_updated (scene_in scene.now) set.now so_far old.now) }
+    requires rising { IsAscending scene.now.def.now so_far.rows }
+    ensures tells { Tells result (row_updated (scene_in scene.now) set.now so_far old.now) }
+    ensures rising { IfOk result (λ g. IsAscending scene.now.def.now g.rows) }
 {
     let fields = told(so_far.next, fields_set(alloc, scene.def, &old.fields, set))?;
     if same_fields(old.fields.as_slice(), fields.as_slice()) {

@@ -9,6 +9,9 @@ use Rattle.mr_types.specs.declared.row.Change.{Change}
 use Rattle.mr_spec.specs.declared.world.Txn.{Txn}
 use Rattle.mr_spec.specs.Database.{changed, with_changes, with_body, with_commits, replay}
 use Rattle.mr_spec.specs.World.{seen_by, view_of}
+use Rattle.std.specs.Option.{ForSome}
+use Rattle.mr_orders.specs.Orders.{AreAscending}
+use Rattle.mr_orders.proofs.Tables.{with-commits, views-ascend}
 use Rattle.mr_model_engine.specs.Kept.{IsKept}
 
 after_more : (ts : List Table) (cs : List Commit) (c : Commit) → with_commits ts (cs ++ c ∷ []) ≡ with_body (with_commits ts cs) c.body
@@ -46,3 +49,11 @@ kept_further cs old new before txn changes all kept is so more =
     sym (after_both (replay (take (seen_by (Some txn) (length cs)) cs)) txn.changes changes) ∙ ap (with_changes (replay (take (seen_by (Some txn) (length cs)) cs))) (sym more) in
     subst (λ o. IsKept o (view_of cs (Some (record txn { changes = all })))) (sym so)
     (subst (IsKept (option_map (λ ts. with_changes ts changes) old)) whole (changed_kept old seen changes (subst (λ b. IsKept old (view_of cs b)) is kept)))
+
+-- ---- their rows ascend
+
+pub replay_ascends : (cs : List Commit) (ts : List Table) → ts ≡ replay cs → AreAscending ts
+replay_ascends cs ts e = subst AreAscending (sym e) (with-commits cs [] tt)
+
+pub view_ascends : (cs : List Commit) (txn : Option Txn) (kept : Option (List Table)) → IsKept kept (view_of cs txn) → ForSome kept AreAscending
+view_ascends cs txn kept is = λ ts e. subst AreAscending (sym (is ts e)) (views-ascend cs txn)

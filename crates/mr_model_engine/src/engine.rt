@@ -2,9 +2,10 @@
 //! change.
 
 ghost use Rattle.std.specs.Prelude.{◌≡◌, ◌∷◌, [], codes, OnOk, IfOk};
-ghost use Rattle.std.specs.Option.{option_map};
+ghost use Rattle.std.specs.Option.{option_map, ForSome};
 ghost use Rattle.mr_spec.specs.Database.{replay as replay_of, with_changes as changes_done};
 ghost use Rattle.mr_spec.specs.World.{fresh as fresh_of, using_table, view_of};
+ghost use Rattle.mr_orders.specs.Orders.{AreAscending};
 ghost use Rattle.mr_model_engine.specs.Kept.{IsKept};
 
 use crate::numbers::set_among;
@@ -80,7 +81,7 @@ impl Engine {
     }
 
     /// A commit more, at the engine's moment, and what it makes of the tables.
-    #[tactic(auto, using(crate::proofs::Current::replay_more))]
+    #[tactic(auto, using(crate::proofs::Current::replay_more, crate::proofs::Current::replay_ascends))]
     pub fn commit(&mut self, alloc: Global, body: CommitBody) -> Result<(), Memory>
         ensures { OnOk result (world_in self.new ≡ with_commit body (world_in self.old)) }
     {
@@ -188,6 +189,7 @@ fn changed_view(
     view: Option<TableList>,
     changes: &[Change],
 ) -> Result<Option<TableList>, Memory>
+    requires rising { ForSome view AreAscending }
     ensures { IfOk result (λ after. after ≡ option_map (λ tables. changes_done tables changes.now) view) }
 {
     match view {

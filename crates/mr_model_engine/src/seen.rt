@@ -83,6 +83,7 @@ pub fn changes_of_txn(txn: &Option<Txn>) -> &[Change]
 }
 
 /// The tables as the current session sees them.
+#[tactic(auto, using(crate::proofs::Current::replay_ascends))]
 fn view(alloc: Global, engine: &Engine) -> Result<TableList, Memory>
     ensures { IfOk result (λ all. all ≡ view_of engine.now.commits engine.now.here.txn) }
 {

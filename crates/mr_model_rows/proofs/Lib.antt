@@ -1,3 +1,5 @@
+pub mod Ascent
 pub mod Moved
 pub mod Named
+pub mod Searching
 pub mod Weighed

@@ -1,11 +1,8 @@
 -- Items that move out of a list and back, one after the other.
 use Rattle.std.proofs.Common.{◌≡◌, ◌≤◌, ◌<◌, ℕ, ◌+◌, not-suc-le-zero, add-one, le_of_suc-le-suc, le_trans, le_of_eq, le-add_right, Bool, false, true, not, zero, suc, List, [], ◌∷◌, ◌++◌, if◌then◌else◌, length, take, drop, filter, map, min, reverse, remove, slice_index_or, length-append, append_assoc, le_antisymm, sym, ap, subst, ◌∙◌}
-use Rattle.mr_types.specs.declared.row.Row.{Row}
-use Rattle.mr_types.specs.declared.definition.TableDef.{TableDef}
 use Rattle.mr_spec.specs.declared.world.Table.{Table}
 use Rattle.mr_spec.specs.Database.{is_table}
 use Rattle.mr_model_rows.specs.Keyed.{tables_without}
-use Rattle.mr_spec.specs.Rows.{same_primary, without}
 use Rattle.std.proofs.Math.Nat.{le-min}
 use Rattle.std.proofs.Math.Seq.{take-append_seam, drop-append_seam}
 use Rattle.std.proofs.lemmas.List.{take_min, drop_min, map-append, reverse-append, reverse-reverse}
@@ -22,14 +19,7 @@ passed p n [] x h i e = absurd (not-suc-le-zero h)
 passed p zero (y ∷ ys) x h i e = sym (ap (λ b. if b then y ∷ filter p ys else filter p ys) (ap p (sym i) ∙ e))
 passed p (suc n) (y ∷ ys) x h i e = ap (λ l. y ∷ l) (passed p n ys x (le_of_suc-le-suc h) i e)
 
--- the same for rows that have another's key, and for those that don't
-pub skipped_row : (def : TableDef) (gone : Row) (n : ℕ) (rows : List Row) (row : Row) → n < length rows → row ≡ slice_index_or rows n row → true ≡ same_primary def gone row → take n (remove rows n) ++ without def gone (drop n (remove rows n)) ≡ take n rows ++ without def gone (drop n rows)
-skipped_row def gone n rows row h i e = skipped (λ r. not (same_primary def gone r)) n rows row h i (sym (ap not e))
-
-pub passed_row : (def : TableDef) (gone : Row) (n : ℕ) (rows : List Row) (row : Row) → n < length rows → row ≡ slice_index_or rows n row → false ≡ same_primary def gone row → take (n + 1) rows ++ without def gone (drop (n + 1) rows) ≡ take n rows ++ without def gone (drop n rows)
-passed_row def gone n rows row h i e = subst (λ m. take m rows ++ without def gone (drop m rows) ≡ take n rows ++ without def gone (drop n rows)) (sym (add-one n)) (passed (λ r. not (same_primary def gone r)) n rows row h i (sym (ap not e)))
-
--- and for tables of a name, and others
+-- the same for tables of a name, and others
 pub skipped_table : (name : List ℕ) (n : ℕ) (tables : List Table) (table : Table) → n < length tables → table ≡ slice_index_or tables n table → true ≡ is_table name table → take n (remove tables n) ++ tables_without name (drop n (remove tables n)) ≡ take n tables ++ tables_without name (drop n tables)
 skipped_table name n tables table h i e = skipped (λ t. not (is_table name t)) n tables table h i (sym (ap not e))
 

@@ -4,6 +4,7 @@ ghost use Rattle.std.specs.Prelude.{◌≡◌, ◌++◌, ◌∷◌, [], IfOk, no
 ghost use Rattle.std.specs.Option.{option_copied};
 ghost use Rattle.mr_types.specs.declared.row.Schema.TheVariants as schema;
 ghost use Rattle.mr_types.specs.Values.{same_bytes};
+ghost use Rattle.mr_orders.specs.Orders.{IsAscending, AreAscending};
 ghost use Rattle.mr_model_rows.specs.Keyed.{table_after as table_behind, table_with, table_without, tables_without as tables_but};
 ghost use Rattle.mr_spec.specs.KeyChecks.{is_named as has_name};
 ghost use Rattle.mr_spec.specs.Rows.{table_name as name_of, rows_after as rows_behind};
@@ -59,6 +60,7 @@ pub fn copy_table(alloc: Global, table: &Table) -> Result<Table, Memory>
 
 /// A table after a change of a row, of this table or another.
 fn table_after(alloc: Global, table: Table, change: &Change) -> Result<Table, Memory>
+    requires rising { IsAscending table.def table.rows }
     ensures { IfOk result (λ t. t ≡ table_behind change.now table) }
 {
     if !is_table(table_name(change).as_slice(), &table) {
@@ -70,8 +72,9 @@ fn table_after(alloc: Global, table: Table, change: &Change) -> Result<Table, Me
 }
 
 /// The tables after a change of one row.
-#[tactic(auto, using(crate::proofs::Moved::carried))]
+#[tactic(auto, using(crate::proofs::Moved::carried, crate::proofs::Ascent::front_ascends, crate::proofs::Ascent::last_ascends))]
 fn changed(alloc: Global, tables: TableList, change: &Change) -> Result<TableList, Memory>
+    requires rising { AreAscending tables }
     ensures { IfOk result (λ all. all ≡ change_done tables change.now) }
 {
     let mut before = tables;
@@ -94,11 +97,13 @@ pub fn copy_tables(alloc: Global, tables: &[Table]) -> Result<TableList, Memory>
 }
 
 /// The tables after these changes.
+#[tactic(auto, using(crate::proofs::Ascent::changed_ascends))]
 pub fn with_changes(
     alloc: Global,
     tables: TableList,
     changes: &[Change],
 ) -> Result<TableList, Memory>
+    requires rising { AreAscending tables }
     ensures { IfOk result (λ all. all ≡ changes_done tables changes.now) }
 {
     let mut all = tables;
@@ -228,6 +233,7 @@ fn with_schema(alloc: Global, tables: TableList, change: &Schema) -> Result<Tabl
 
 /// The tables after what a commit has changed.
 pub fn with_body(alloc: Global, tables: TableList, body: &CommitBody) -> Result<TableList, Memory>
+    requires rising { AreAscending tables }
     ensures { IfOk result (λ all. all ≡ body_done tables body.now) }
 {
     match body {
@@ -237,6 +243,7 @@ pub fn with_body(alloc: Global, tables: TableList, body: &CommitBody) -> Result<
 }
 
 /// The tables that these commits make of none.
+#[tactic(auto, using(crate::proofs::Ascent::body_ascends))]
 pub fn replay(alloc: Global, commits: &[Commit]) -> Result<TableList, Memory>
     ensures { IfOk result (λ all. all ≡ replay_of commits.now) }
 {

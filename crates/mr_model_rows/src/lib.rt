@@ -6,6 +6,7 @@ mod claims;
 mod conditions;
 mod copies;
 mod database;
+mod finding;
 mod naming;
 mod rows;
 mod truth;
@@ -21,6 +22,7 @@ pub use database::{
     copy_table, copy_tables, defines, is_table, replay, table_name, table_of, with_body,
     with_changes,
 };
+pub use finding::search;
 pub use naming::{known_columns, right_literals};
 pub use rows::{
     clashes, columns_cmp, copy_rows, is_visible, kind_at, place_of, primary_cmp, rows_after,

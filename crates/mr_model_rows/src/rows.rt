@@ -1,12 +1,14 @@
 //! Rows of a table.
 
-ghost use Rattle.std.specs.Prelude.{◌≡◌, ◌≤◌, ◌++◌, ◌∷◌, take, drop, length, IfOk};
+ghost use Rattle.std.specs.Prelude.{◌≡◌, IfOk};
 ghost use Rattle.std.specs.List.{list_any};
 ghost use Rattle.mr_types.specs.Order.{value_cmp as order_of};
 ghost use Rattle.mr_types.specs.Values.{is_null as null_test};
-ghost use Rattle.mr_spec.specs.Rows.{place_of as place_in, kind_at as kind_in, value_at as value_in, columns_cmp as columns_order, primary_cmp as primary_order, same_primary as has_primary, has_null as null_in, same_unique as has_unique, clashes as clash, is_visible as is_seen, visible as seen, placed as placed_in, without as left_without, put as put_in, rows_after as rows_behind};
+ghost use Rattle.mr_orders.specs.Orders.{IsAscending};
+ghost use Rattle.mr_spec.specs.Rows.{place_of as place_in, kind_at as kind_in, value_at as value_in, columns_cmp as columns_order, primary_cmp as primary_order, same_primary as has_primary, has_null as null_in, same_unique as has_unique, clashes as clash, is_visible as is_seen, visible as seen, without as left_without, put as put_in, rows_after as rows_behind};
 
 use crate::copies::insert_at;
+use crate::finding::search;
 use crate::values::value_cmp;
 use mr_base::Memory;
 use mr_schema::place_in as place_among;
@@ -140,33 +142,19 @@ pub fn visible(alloc: Global, def: &TableDef, moment: u64, rows: &[Row]) -> Resu
 }
 
 /// The rows without any that has the key of this one.
-#[tactic(auto, using(crate::proofs::Moved::skipped_row, crate::proofs::Moved::passed_row))]
+#[tactic(auto, using(crate::proofs::Searching::without_found, crate::proofs::Searching::without_absent))]
 pub fn without(def: &TableDef, gone: &Row, rows: RowList) -> RowList
+    requires rising { IsAscending def.now rows }
     ensures { result ≡ left_without def.now gone.now rows }
 {
-    let mut kept = rows;
-    let mut at = 0;
-    while at < kept.len() {
-        if same_primary(def, gone, &kept.as_slice()[at]) {
-            let _gone = kept.remove(at);
-        } else {
-            at += 1;
+    match search(def, gone, rows.as_slice()) {
+        Ok(at) => {
+            let mut rows = rows;
+            let _gone = rows.remove(at);
+            rows
         }
+        Err(_) => rows,
     }
-    kept
-}
-
-/// How many rows stand in front of the place where the row belongs.
-fn place_for(def: &TableDef, new: &Row, rows: &[Row]) -> usize
-    ensures within { result ≤ length rows.now }
-    ensures placed { placed_in def.now new.now rows.now ≡ take result rows.now ++ new.now ∷ drop result rows.now }
-{
-    for (i, row) in rows.iter().enumerate() {
-        if primary_cmp(def, new, row) == Ordering::Less {
-            return i;
-        }
-    }
-    rows.len()
 }
 
 /// A copy of these rows.
@@ -181,22 +169,32 @@ pub fn copy_rows(alloc: Global, rows: &[Row]) -> Result<RowList, Memory>
 }
 
 /// The rows with this one in the place of any that has its key.
+#[tactic(auto, using(crate::proofs::Searching::put_found, crate::proofs::Searching::put_absent))]
 fn put(alloc: Global, def: &TableDef, new: &Row, rows: RowList) -> Result<RowList, Memory>
+    requires rising { IsAscending def.now rows }
     ensures { IfOk result (λ all. all ≡ put_in def.now new.now rows) }
 {
-    let others = without(def, new, rows);
-    let at = place_for(def, new, others.as_slice());
-    insert_at(alloc, others, at, new.copy(alloc)?)
+    match search(def, new, rows.as_slice()) {
+        Ok(at) => {
+            let mut rows = rows;
+            rows.set(at, new.copy(alloc)?);
+            Ok(rows)
+        }
+        Err(at) => insert_at(alloc, rows, at, new.copy(alloc)?),
+    }
 }
 
 /// The rows after a change of their table.
+#[tactic(auto, using(crate::proofs::Ascent::without_ascends))]
 pub fn rows_after(
     alloc: Global,
     def: &TableDef,
     rows: RowList,
     change: &Change,
 ) -> Result<RowList, Memory>
-    ensures { IfOk result (λ all. all ≡ rows_behind def.now rows change.now) }
+    requires rising { IsAscending def.now rows }
+    ensures rows { IfOk result (λ all. all ≡ rows_behind def.now rows change.now) }
+    ensures rising { IfOk result (λ all. IsAscending def.now all) }
 {
     match change {
         Change::Insert { new, .. } => put(alloc, def, new, rows),

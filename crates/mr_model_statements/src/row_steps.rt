@@ -6,7 +6,8 @@ ghost use Rattle.mr_spec.specs.declared.progress.Refusal.{Refusal as Refusing};
 ghost use Rattle.std.specs.Option.{option_map};
 ghost use Rattle.mr_spec.specs.Database.{table_of, replay as replay_of};
 ghost use Rattle.mr_spec.specs.Outcome.{Outcome, answered as answered_in};
-ghost use Rattle.mr_spec.specs.RowSteps.{on_rows, select_answer, select_outcome, start_of as start_in, scene_of, written as written_by, after_rows as behind_rows, write_outcome};
+ghost use Rattle.mr_spec.specs.RowSteps.{on_rows, rows_seen as rows_in_view, select_answer, select_outcome, start_of as start_in, scene_of, written as written_by, after_rows as behind_rows, write_outcome};
+ghost use Rattle.mr_orders.specs.Orders.{IsAscending};
 ghost use Rattle.mr_spec.specs.Truth.{where_of};
 ghost use Rattle.mr_spec.specs.Weight.{total_weight};
 ghost use Rattle.mr_spec.specs.World.{changes_by};
@@ -47,6 +48,7 @@ fn committed_def(alloc: Global, engine: &Engine, name: &[u8]) -> Result<Option<T
 fn open_table(alloc: Global, engine: &mut Engine, name: &[u8]) -> Result<TableDef, Refused>
     ensures opens { Opens (world_in engine.old) (world_in engine.new) name.now result }
     ensures kept { OnOk result (IsTrue (keeps_view engine.new)) }
+    ensures rising { IfOk result (λ def. IsAscending def (rows_in_view def.name (world_in engine.new))) }
 {
     let Some(def) = committed_def(alloc, engine, name)? else {
         return Err(Refused::Sql(1146));
@@ -118,6 +120,7 @@ fn changes_of(
     writing: Writing,
     start: Progress,
 ) -> Result<Progress, Failed>
+    requires rising { IsAscending scene.now.def.now start.rows }
     ensures { Tells result (changes_by_writing writing.entry (scene_in scene.now) start) }
 {
     match writing {
@@ -136,6 +139,7 @@ fn left_on_copy(
     rows: &[Row],
     next: u64,
 ) -> Result<Written, Failed>
+    requires rising { IsAscending scene.now.def.now rows.now }
     ensures { Tells result (leaves (changes_by_writing writing.entry (scene_in scene.now) (start_among rows.now next))) }
 {
     let start = Progress {
@@ -156,6 +160,7 @@ fn left_among(
     rows: &[Row],
     next: u64,
 ) -> Result<Written, Failed>
+    requires rising { IsAscending scene.now.def.now rows.now }
     ensures { Tells result (leaves (changes_by_writing writing.entry (scene_in scene.now) (start_among rows.now next))) }
 {
     if let Writing::Insert(statement) = writing {
@@ -195,6 +200,7 @@ fn all_changes(
     writing: Writing,
 ) -> Result<Written, Failed>
     requires kept { IsTrue (keeps_view engine.now) }
+    requires rising { IsAscending def.now (rows_in_view def.now.name (world_in engine.now)) }
     ensures { Tells result (leaves (changes_by_writing writing.entry (scene_of (bare def.now) (world_in engine.now)) (start_in (bare def.now) (world_in engine.now)))) }
 {
     let held = held_elsewhere(alloc, engine, def.name.as_slice())?;
@@ -218,6 +224,7 @@ fn written(
     writing: Writing,
 ) -> Result<Written, Failed>
     requires kept { IsTrue (keeps_view engine.now) }
+    requires rising { IsAscending def.now (rows_in_view def.now.name (world_in engine.now)) }
     ensures { Tells result (leaves (written_by (changes_by_writing writing.entry) (bare def.now) (world_in engine.now))) }
 {
     let written = all_changes(alloc, engine, def, writing)?;
