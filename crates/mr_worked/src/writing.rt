@@ -1,10 +1,14 @@
 //! Worked writing statements on a table of two numbers: the first is its key, the second unique.
 
+ghost use Rattle.std.specs.Prelude.{◌≡◌, [], IfOk};
+ghost use Rattle.mr_orders.specs.Orders.{IsAscending};
+
 use mr_base::{Blob, Memory};
 use mr_model::{
-    Failed, Scene, delete_changes, insert_changes, is_too_heavy, replace_changes, update_changes,
+    Failed, Scene, delete_changes, insert_changes, is_too_heavy, replace_changes, rows_after,
+    update_changes,
 };
-use mr_spec::Progress;
+use mr_spec::{Progress, RowList};
 use mr_types::{
     Change, Cmp, ColumnDef, ColumnType, Expr, Factor, IndexDef, Insert, ItemValue, Kind, Row,
     SetItem, SetList, SetTo, TableDef, Term, Tuple, Value,
@@ -49,7 +53,9 @@ fn table(alloc: Global) -> Result<TableDef, Memory> {
     ))
 }
 
-fn scene<'a>(def: &'a TableDef, held: &'a [Change]) -> Scene<'a> {
+fn scene<'a>(def: &'a TableDef, held: &'a [Change]) -> Scene<'a>
+    ensures { result.def.now ≡ def.now }
+{
     Scene {
         def,
         moment: 100,
@@ -58,7 +64,9 @@ fn scene<'a>(def: &'a TableDef, held: &'a [Change]) -> Scene<'a> {
     }
 }
 
-fn nothing(alloc: Global) -> Progress {
+fn nothing(alloc: Global) -> Progress
+    ensures { result.rows ≡ [] }
+{
     Progress {
         rows: Items::new(alloc),
         changes: Items::new(alloc),
@@ -113,10 +121,43 @@ fn filled(alloc: Global) -> Result<Progress, Failed> {
     Ok(progress)
 }
 
+/// The rows by their primary keys.
+fn in_order(alloc: Global, def: &TableDef, rows: &[Row]) -> Result<RowList, Memory>
+    ensures { IfOk result (λ all. IsAscending def.now all) }
+{
+    let mut all = RowList::new(alloc);
+    for row in rows {
+        let change = Change::Insert {
+            table: def.name.copy(alloc)?,
+            new: row.copy(alloc)?,
+        };
+        all = rows_after(alloc, def, all, &change)?;
+    }
+    Ok(all)
+}
+
+/// The same table at the start of a statement.
+fn begun(alloc: Global, def: &TableDef) -> Result<Progress, Failed>
+    ensures { IfOk result (λ g. IsAscending def.now g.rows) }
+{
+    let Progress {
+        rows,
+        changes,
+        next,
+        count,
+    } = filled(alloc)?;
+    Ok(Progress {
+        rows: in_order(alloc, def, rows.as_slice())?,
+        changes,
+        next,
+        count,
+    })
+}
+
 fn replaced(alloc: Global, given: &[Given]) -> Result<Progress, Failed> {
     let def = table(alloc)?;
     let statement = statement(alloc, given)?;
-    replace_changes(alloc, &scene(&def, &[]), &statement, filled(alloc)?)
+    replace_changes(alloc, &scene(&def, &[]), &statement, begun(alloc, &def)?)
 }
 
 // ---- UPDATE and DELETE
@@ -172,7 +213,7 @@ fn updated(alloc: Global, name: &[u8], sums: &[Sum]) -> Result<Progress, Failed>
         &scene(&def, &[]),
         set.as_slice(),
         &None,
-        filled(alloc)?,
+        begun(alloc, &def)?,
     )
 }
 
@@ -180,7 +221,7 @@ fn deleted(alloc: Global, name: &[u8], id: i128) -> Result<Progress, Failed> {
     let def = table(alloc)?;
     let name = Blob::from_slice(alloc, name)?;
     let condition = Some(Expr::Compare(name, Cmp::Eq, Value::Number(id)));
-    delete_changes(alloc, &scene(&def, &[]), &condition, filled(alloc)?)
+    delete_changes(alloc, &scene(&def, &[]), &condition, begun(alloc, &def)?)
 }
 
 /// The update of the table beside a session that holds these changes.
@@ -192,7 +233,7 @@ fn updated_beside(alloc: Global, held: &[Change]) -> Result<Progress, Failed> {
         &scene(&def, held),
         set.as_slice(),
         &None,
-        filled(alloc)?,
+        begun(alloc, &def)?,
     )
 }
 
