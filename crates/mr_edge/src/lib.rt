@@ -14,6 +14,3 @@ pub use clock::SystemClock;
 pub use folder::Locking;
 pub use host::FolderHost;
 pub use input::StdinSource;
-
-#[cfg(test)]
-mod tests;

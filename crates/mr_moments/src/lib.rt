@@ -9,6 +9,3 @@ mod source;
 
 pub use choice::moments_of;
 pub use source::Moments;
-
-#[cfg(test)]
-mod tests;

@@ -6,7 +6,7 @@ ghost use Rattle.mr_types.specs.declared.value.Value.TheVariants.{Null as ANull,
 use crate::tables::{changed, names, stamped};
 use mr_base::{Blob, Malformed, Memory};
 use mr_rowval::{RowRef, encode_row};
-use mr_types::{FieldRef, Row, Value};
+use mr_types::{FieldRef, Pieces, Row, Value};
 use sqlite_items::Items;
 use std::alloc::Global;
 use std::test::Fail;
@@ -18,51 +18,106 @@ fn offence(decoded: Result<RowRef<'_>, Malformed>) -> u64 {
     }
 }
 
-fn is_slice(field: &FieldRef<'_>, bytes: &[u8]) -> bool {
-    match field {
-        FieldRef::Slice(slice) => *slice == bytes,
-        _ => false,
+/// What the tests show of a row, and whether memory was wanting for a part of it.
+#[derive(Drop)]
+struct Shown {
+    text: Vec<u8>,
+    is_cut: bool,
+}
+
+impl Shown {
+    fn put(&mut self, bytes: &[u8]) {
+        if self.text.extend_from_slice(bytes).is_err() {
+            self.is_cut = true;
+        }
+    }
+
+    fn put_number(&mut self, number: i128) {
+        match number.to_string(*self.text.allocator()) {
+            Ok(digits) => self.put(digits.as_bytes()),
+            Err(_) => self.is_cut = true,
+        }
+    }
+
+    fn put_pieces(&mut self, pieces: &Pieces<'_>) {
+        for at in 0..pieces.len() {
+            self.put(&[pieces.byte(at)]);
+        }
+    }
+
+    fn put_field(&mut self, field: &FieldRef<'_>) {
+        match field {
+            FieldRef::Null => self.put(b"-"),
+            FieldRef::Number(number) => self.put_number(*number),
+            FieldRef::Slice(bytes) => self.put(bytes),
+            FieldRef::Pieces(pieces) => self.put_pieces(pieces),
+        }
+        self.put(b"|");
+    }
+
+    fn put_mark(&mut self, mark: Option<u64>) {
+        match mark {
+            None => self.put(b"-"),
+            Some(number) => self.put_number(number as i128),
+        }
+        self.put(b"|");
+    }
+
+    /// The hidden number, the stamp and the first four fields, or where the pair offends.
+    fn put_row(&mut self, decoded: Result<RowRef<'_>, Malformed>) {
+        match decoded {
+            Ok(row) => {
+                self.put_mark(row.hidden());
+                self.put_mark(row.stamp());
+                for column in 0..4u8 {
+                    self.put_field(&row.field(column));
+                }
+            }
+            Err(Malformed(at)) => self.put_number(at as i128),
+        }
     }
 }
 
-fn is_text(field: &FieldRef<'_>, text: &[u8]) -> bool {
-    match field {
-        FieldRef::Pieces(pieces) => {
-            let mut same = pieces.len() == text.len();
-            for (at, byte) in text.iter().enumerate() {
-                if at < pieces.len() && pieces.byte(at) != *byte {
-                    same = false;
-                }
-            }
-            same
-        }
-        _ => false,
-    }
+/// Whether this is shown of an entry in one of the two tables.
+fn is_shown(
+    alloc: Global,
+    is_stamped: bool,
+    key: &[u8],
+    value: &[u8],
+    wanted: &str,
+) -> Result<bool, Memory> {
+    let def = if is_stamped {
+        stamped(alloc)?
+    } else {
+        names(alloc)?
+    };
+    let mut shown = Shown {
+        text: Vec::new(alloc),
+        is_cut: false,
+    };
+    shown.put_row(RowRef::decode(&def, key, value));
+    Ok(!shown.is_cut && shown.text.as_slice() == wanted.as_bytes())
 }
 
 /// The number 2 in the primary key of index 256.
 const TWO: &[u8] = b"\x00\x00\x01\x00\x80\x00\x00\x00\x00\x00\x00\x02";
 
+/// Values of the row, parted by `~`, and what is shown of them: the text `Al`, NULL, and values that offend.
+const VALUES: &str = "\
+\x00\x00\x02Al=-|-|2|Al|-|-|~\x01=-|-|2|-|-|-|~\x02=12~\x03=12~=12~\x00\x00\x02A=13~\x01x=13";
+
 #[test]
 fn primary_value_and_null_bits(rt: HostRuntime) -> Result<(), Fail> {
-    let def = names(rt.alloc())?;
-    let row = RowRef::decode(&def, TWO, b"\x00\x00\x02Al")?;
-    assert!(rt; matches!(row.field(0), FieldRef::Number(2)));
-    assert!(rt; is_slice(&row.field(1), b"Al"));
-    assert!(rt; matches!(row.field(2), FieldRef::Null));
-    let row = RowRef::decode(&def, TWO, b"\x01")?;
-    assert!(rt; matches!(row.field(1), FieldRef::Null));
-    for (value, at) in [
-        (b"\x02".as_slice(), 12),
-        (b"\x03", 12),
-        (b"", 12),
-        (b"\x00\x00\x02A", 13),
-        (b"\x00\x00\x02A\x80", 13),
-        (b"\x01x", 13),
-    ] {
-        assert_eq!(rt; offence(RowRef::decode(&def, TWO, value)), at);
+    for row in VALUES.split('~') {
+        if let Some((value, wanted)) = row.split_once('=') {
+            assert!(rt;
+                is_shown(rt.alloc(), false, TWO, value.as_bytes(), wanted)?,
+                "{wanted}"
+            );
+        }
     }
-    assert_eq!(rt; offence(RowRef::decode(&def, &TWO[..11], b"\x02")), 4);
+    assert!(rt; is_shown(rt.alloc(), false, TWO, b"\x00\x00\x02A\x80", "13")?);
+    assert!(rt; is_shown(rt.alloc(), false, &TWO[..11], b"\x02", "4")?);
     Ok(())
 }
 
@@ -74,14 +129,7 @@ const VALUE: &[u8] =
 
 #[test]
 fn a_row_with_all_parts(rt: HostRuntime) -> Result<(), Fail> {
-    let def = stamped(rt.alloc())?;
-    let row = RowRef::decode(&def, KEY, VALUE)?;
-    assert_eq!(rt; row.stamp(), Some(9));
-    assert_eq!(rt; row.hidden(), None);
-    assert!(rt; matches!(row.field(0), FieldRef::Number(-2)));
-    assert!(rt; is_text(&row.field(1), b"Ab1 "));
-    assert!(rt; is_slice(&row.field(2), b"x"));
-    assert!(rt; matches!(row.field(3), FieldRef::Number(9)));
+    assert!(rt; is_shown(rt.alloc(), true, KEY, VALUE, "-|9|-2|Ab1 |x|9|")?);
     Ok(())
 }
 

@@ -2,8 +2,6 @@
 #![tactic(auto)]
 
 #[cfg(test)]
-mod definitions;
-#[cfg(test)]
 mod forms;
 #[cfg(test)]
 mod texts;

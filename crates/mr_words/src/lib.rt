@@ -13,6 +13,3 @@ pub use find::folders;
 pub use form::{is_form, options_of};
 pub use options::Options;
 pub use places::Folders;
-
-#[cfg(test)]
-mod tests;

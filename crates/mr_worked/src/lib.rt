@@ -1,11 +1,7 @@
-//! Tests of the plain program: worked rows, writing statements and scripts, each with its answer.
+//! Tests of the plain program: scripts, each with its replies.
 #![tactic(auto)]
 
 #[cfg(test)]
 mod replies;
 #[cfg(test)]
-mod rows;
-#[cfg(test)]
 mod scripts;
-#[cfg(test)]
-mod writing;

@@ -3,9 +3,9 @@
 ghost use Rattle.std.specs.Prelude.{IfOk, IfSome};
 ghost use Rattle.mr_schema.specs.Few.{FewColumns};
 
-use crate::replies::{REOPENED, ROWS};
+use crate::replies::ROWS;
 use mr_base::{Clock, Memory};
-use mr_model::run_script;
+use mr_model::{Ran, run_script};
 use mr_types::Commit;
 use sqlite_items::Items;
 use std::alloc::Global;
@@ -33,44 +33,30 @@ impl Clock for Values<'_> {
     }
 }
 
-/// What stands before the first 0xfd, and what stands behind it.
+/// What stands before the first 0xfd, and what stands behind it, nothing where there is none.
 fn halves(row: &[u8]) -> (&[u8], &[u8]) {
     for (i, byte) in row.iter().enumerate() {
         if *byte == 0xfd {
             return (&row[..i], &row[i + 1..]);
         }
     }
-    (row, row)
+    (row, &[])
 }
 
-/// Whether the run of a script gives these replies, where the clock gives these values.
-fn gives(alloc: Global, values: &[u8], script: &[u8], replies: &[u8]) -> Result<bool, Memory> {
-    let ran = run_script(
-        alloc,
-        Items::new(alloc),
-        script,
-        &mut Values { left: values },
-    )?;
-    Ok(ran.output.as_slice() == replies)
+/// The run of a script on these commits, where the clock gives these values.
+fn run_on(
+    alloc: Global,
+    commits: Items<Commit>,
+    values: &[u8],
+    script: &[u8],
+) -> Result<Ran, Memory>
+    requires few { FewColumns commits }
+    ensures few { IfOk result (λ ran. FewColumns ran.commits) }
+{
+    run_script(alloc, commits, script, &mut Values { left: values })
 }
 
-/// Whether a run gives the replies that a row has behind what it shows.
-fn is_right(alloc: Global, row: &[u8]) -> Result<bool, Memory> {
-    let (values, rest) = halves(row);
-    let (script, replies) = halves(rest);
-    gives(alloc, values, script, replies)
-}
-
-#[test]
-fn scripts_have_their_replies(rt: HostRuntime) -> Result<(), Fail> {
-    for row in ROWS.split(|byte| *byte == 0xfe).skip(1) {
-        let (what, rest) = halves(row);
-        assert!(rt; is_right(rt.alloc(), rest)?, "{what:?}");
-    }
-    Ok(())
-}
-
-/// The commits of a run, None where its replies are others.
+/// Its commits, None where its replies are others.
 fn commits_of(
     alloc: Global,
     values: &[u8],
@@ -79,12 +65,7 @@ fn commits_of(
 ) -> Result<Option<Items<Commit>>, Memory>
     ensures few { IfOk result (λ found. IfSome found (λ commits. FewColumns commits)) }
 {
-    let ran = run_script(
-        alloc,
-        Items::new(alloc),
-        script,
-        &mut Values { left: values },
-    )?;
+    let ran = run_on(alloc, Items::new(alloc), values, script)?;
     if ran.output.as_slice() == replies {
         Ok(Some(ran.commits))
     } else {
@@ -98,12 +79,12 @@ fn is_right_on(alloc: Global, commits: Items<Commit>, row: &[u8]) -> Result<bool
 {
     let (values, rest) = halves(row);
     let (script, replies) = halves(rest);
-    let ran = run_script(alloc, commits, script, &mut Values { left: values })?;
+    let ran = run_on(alloc, commits, values, script)?;
     Ok(ran.output.as_slice() == replies)
 }
 
 /// Whether a run gives its replies, and one on its commits the replies behind them.
-fn is_right_reopened(alloc: Global, row: &[u8]) -> Result<bool, Memory> {
+fn is_right(alloc: Global, row: &[u8]) -> Result<bool, Memory> {
     let (values, rest) = halves(row);
     let (script, rest) = halves(rest);
     let (replies, second) = halves(rest);
@@ -114,10 +95,10 @@ fn is_right_reopened(alloc: Global, row: &[u8]) -> Result<bool, Memory> {
 }
 
 #[test]
-fn reopened_scripts_have_their_replies(rt: HostRuntime) -> Result<(), Fail> {
-    for row in REOPENED.split(|byte| *byte == 0xfe).skip(1) {
+fn scripts_have_their_replies(rt: HostRuntime) -> Result<(), Fail> {
+    for row in ROWS.split(|byte| *byte == 0xfe).skip(1) {
         let (what, rest) = halves(row);
-        assert!(rt; is_right_reopened(rt.alloc(), rest)?, "{what:?}");
+        assert!(rt; is_right(rt.alloc(), rest)?, "{what:?}");
     }
     Ok(())
 }
@@ -130,18 +111,23 @@ fn long_script(alloc: Global, length: usize) -> Result<Vec<u8>, Memory> {
     Ok(script)
 }
 
+/// Whether a script whose first statement has so many bytes gives these replies.
+fn gives(alloc: Global, length: usize, replies: &[u8]) -> Result<bool, Memory> {
+    let script = long_script(alloc, length)?;
+    let ran = run_on(alloc, Items::new(alloc), &[7], &script)?;
+    Ok(ran.output.as_slice() == replies)
+}
+
 #[test]
 fn statements_are_too_long(rt: HostRuntime) -> Result<(), Fail> {
-    let most = long_script(rt.alloc(), 1_048_576)?;
-    assert!(rt; gives(rt.alloc(), &[7], &most, b"ERROR 1064\nOK 0\n")?);
-    let more = long_script(rt.alloc(), 1_048_577)?;
-    assert!(rt; gives(rt.alloc(), &[7], &more, b"ERROR 1153\nOK 0\n")?);
+    assert!(rt; gives(rt.alloc(), 1_048_576, b"ERROR 1064\nOK 0\n")?);
+    assert!(rt; gives(rt.alloc(), 1_048_577, b"ERROR 1153\nOK 0\n")?);
     Ok(())
 }
 
 /// Whether some reply of the script is an `ERROR`.
 fn fails(alloc: Global, script: &[u8]) -> Result<bool, Memory> {
-    Ok(run_script(alloc, Items::new(alloc), script, &mut Values { left: &[] })?.failed)
+    Ok(run_on(alloc, Items::new(alloc), &[], script)?.failed)
 }
 
 #[test]

@@ -7,38 +7,52 @@ use mr_types::{
 };
 use std::alloc::{AllocError, Global};
 
-fn put(out: &mut Vec<u8>, bytes: &[u8]) -> Result<(), AllocError> {
-    out.extend_from_slice(bytes)
+/// A text that is made, and whether memory was wanting for a part of it.
+#[derive(Drop)]
+struct Printer {
+    text: Vec<u8>,
+    is_cut: bool,
 }
 
-fn number(alloc: Global, out: &mut Vec<u8>, number: i128) -> Result<(), AllocError> {
-    put(out, number.to_string(alloc)?.into_bytes().as_slice())
+impl Printer {
+    fn put(&mut self, bytes: &[u8]) {
+        if self.text.extend_from_slice(bytes).is_err() {
+            self.is_cut = true;
+        }
+    }
+
+    fn put_number(&mut self, number: i128) {
+        match number.to_string(*self.text.allocator()) {
+            Ok(digits) => self.put(digits.as_bytes()),
+            Err(_) => self.is_cut = true,
+        }
+    }
 }
 
-fn value(alloc: Global, out: &mut Vec<u8>, value: &Value) -> Result<(), AllocError> {
+fn value(out: &mut Printer, value: &Value) {
     match value {
-        Value::Null => put(out, b"null"),
-        Value::Number(n) => number(alloc, out, *n),
+        Value::Null => out.put(b"null"),
+        Value::Number(n) => out.put_number(*n),
         Value::Text(text) => {
-            put(out, b"'")?;
-            put(out, text.as_slice())?;
-            put(out, b"'")
+            out.put(b"'");
+            out.put(text.as_slice());
+            out.put(b"'")
         }
         Value::Bytes(bytes) => {
-            put(out, b"x'")?;
-            put(out, bytes.as_slice())?;
-            put(out, b"'")
+            out.put(b"x'");
+            out.put(bytes.as_slice());
+            out.put(b"'")
         }
     }
 }
 
-fn names(out: &mut Vec<u8>, names: &NameList) -> Result<(), AllocError> {
-    put(out, b"(")?;
+fn names(out: &mut Printer, names: &NameList) {
+    out.put(b"(");
     for name in names.as_slice() {
-        put(out, name.as_slice())?;
-        put(out, b" ")?;
+        out.put(name.as_slice());
+        out.put(b" ");
     }
-    put(out, b")")
+    out.put(b")")
 }
 
 fn sign(cmp: Cmp) -> &'static [u8] {
@@ -52,175 +66,169 @@ fn sign(cmp: Cmp) -> &'static [u8] {
     }
 }
 
-fn expr(alloc: Global, out: &mut Vec<u8>, e: &Expr) -> Result<(), AllocError> {
+fn expr(out: &mut Printer, e: &Expr) {
     match e {
         Expr::Compare(name, cmp, v) => {
-            put(out, name.as_slice())?;
-            put(out, sign(*cmp))?;
-            value(alloc, out, v)
+            out.put(name.as_slice());
+            out.put(sign(*cmp));
+            value(out, v)
         }
         Expr::IsNull(name) => {
-            put(out, name.as_slice())?;
-            put(out, b"?")
+            out.put(name.as_slice());
+            out.put(b"?")
         }
         Expr::Between(name, low, high) => {
-            put(out, name.as_slice())?;
-            put(out, b":")?;
-            value(alloc, out, low)?;
-            put(out, b"..")?;
-            value(alloc, out, high)
+            out.put(name.as_slice());
+            out.put(b":");
+            value(out, low);
+            out.put(b"..");
+            value(out, high)
         }
         Expr::OneOf(name, values) => {
-            put(out, name.as_slice())?;
-            put(out, b":{")?;
+            out.put(name.as_slice());
+            out.put(b":{");
             for v in values.as_slice() {
-                value(alloc, out, v)?;
-                put(out, b" ")?;
+                value(out, v);
+                out.put(b" ");
             }
-            put(out, b"}")
+            out.put(b"}")
         }
         Expr::Not(part) => {
-            put(out, b"~")?;
-            expr(alloc, out, part.get())
+            out.put(b"~");
+            expr(out, part.get())
         }
         Expr::And(parts) => {
-            put(out, b"&(")?;
+            out.put(b"&(");
             for part in parts.as_slice() {
-                expr(alloc, out, part)?;
-                put(out, b" ")?;
+                expr(out, part);
+                out.put(b" ");
             }
-            put(out, b")")
+            out.put(b")")
         }
         Expr::Or(parts) => {
-            put(out, b"|(")?;
+            out.put(b"|(");
             for part in parts.as_slice() {
-                expr(alloc, out, part)?;
-                put(out, b" ")?;
+                expr(out, part);
+                out.put(b" ");
             }
-            put(out, b")")
+            out.put(b")")
         }
     }
 }
 
-fn condition(alloc: Global, out: &mut Vec<u8>, e: &Option<Expr>) -> Result<(), AllocError> {
+fn condition(out: &mut Printer, e: &Option<Expr>) {
     match e {
-        None => Ok(()),
+        None => {}
         Some(e) => {
-            put(out, b" where ")?;
-            expr(alloc, out, e)
+            out.put(b" where ");
+            expr(out, e)
         }
     }
 }
 
-fn insert(alloc: Global, out: &mut Vec<u8>, insert: &Insert) -> Result<(), AllocError> {
-    put(out, insert.table.as_slice())?;
+fn insert(out: &mut Printer, insert: &Insert) {
+    out.put(insert.table.as_slice());
     if let Some(columns) = &insert.columns {
-        names(out, columns)?;
+        names(out, columns);
     }
     for row in insert.rows.as_slice() {
-        put(out, b" (")?;
+        out.put(b" (");
         for item in row.as_slice() {
             match item {
-                ItemValue::Default => put(out, b"*")?,
-                ItemValue::Literal(v) => value(alloc, out, v)?,
+                ItemValue::Default => out.put(b"*"),
+                ItemValue::Literal(v) => value(out, v),
             }
-            put(out, b" ")?;
+            out.put(b" ");
         }
-        put(out, b")")?;
+        out.put(b")");
     }
-    Ok(())
 }
 
-fn term(alloc: Global, out: &mut Vec<u8>, term: &Term) -> Result<(), AllocError> {
-    put(
-        out,
-        if term.minus {
-            b"-(".as_slice()
-        } else {
-            b"+(".as_slice()
-        },
-    )?;
+fn term(out: &mut Printer, term: &Term) {
+    out.put(if term.minus {
+        b"-(".as_slice()
+    } else {
+        b"+(".as_slice()
+    });
     for factor in term.factors.as_slice() {
         match factor {
-            Factor::Column(name) => put(out, name.as_slice())?,
-            Factor::Literal(v) => value(alloc, out, v)?,
+            Factor::Column(name) => out.put(name.as_slice()),
+            Factor::Literal(v) => value(out, v),
         }
-        put(out, b" ")?;
+        out.put(b" ");
     }
-    put(out, b")")
+    out.put(b")")
 }
 
-fn set(alloc: Global, out: &mut Vec<u8>, item: &SetItem) -> Result<(), AllocError> {
-    put(out, b" ")?;
-    put(out, item.column.as_slice())?;
-    put(out, b"=")?;
+fn set(out: &mut Printer, item: &SetItem) {
+    out.put(b" ");
+    out.put(item.column.as_slice());
+    out.put(b"=");
     match &item.to {
-        SetTo::Default => put(out, b"*"),
+        SetTo::Default => out.put(b"*"),
         SetTo::Sum(terms) => {
             for part in terms.as_slice() {
-                term(alloc, out, part)?;
+                term(out, part);
             }
-            Ok(())
         }
     }
 }
 
-fn aggregate(out: &mut Vec<u8>, aggregate: &Aggregate) -> Result<(), AllocError> {
+fn aggregate(out: &mut Printer, aggregate: &Aggregate) {
     match aggregate {
-        Aggregate::Count => put(out, b"count "),
+        Aggregate::Count => out.put(b"count "),
         Aggregate::Min(name) => {
-            put(out, b"min:")?;
-            put(out, name.as_slice())?;
-            put(out, b" ")
+            out.put(b"min:");
+            out.put(name.as_slice());
+            out.put(b" ")
         }
         Aggregate::Max(name) => {
-            put(out, b"max:")?;
-            put(out, name.as_slice())?;
-            put(out, b" ")
+            out.put(b"max:");
+            out.put(name.as_slice());
+            out.put(b" ")
         }
     }
 }
 
-fn columns(out: &mut Vec<u8>, columns: &Columns) -> Result<(), AllocError> {
+fn columns(out: &mut Printer, columns: &Columns) {
     match columns {
-        Columns::All => put(out, b"*"),
+        Columns::All => out.put(b"*"),
         Columns::Names(list) => names(out, list),
         Columns::Aggregates(list) => {
-            put(out, b"{")?;
+            out.put(b"{");
             for part in list.as_slice() {
-                aggregate(out, part)?;
+                aggregate(out, part);
             }
-            put(out, b"}")
+            out.put(b"}")
         }
     }
 }
 
-fn select(alloc: Global, out: &mut Vec<u8>, select: &Select) -> Result<(), AllocError> {
-    columns(out, &select.columns)?;
-    put(out, b" ")?;
-    put(out, select.table.as_slice())?;
+fn select(out: &mut Printer, select: &Select) {
+    columns(out, &select.columns);
+    out.put(b" ");
+    out.put(select.table.as_slice());
     match &select.forced {
         None => {}
-        Some(IndexName::Primary) => put(out, b" by-primary")?,
+        Some(IndexName::Primary) => out.put(b" by-primary"),
         Some(IndexName::Name(name)) => {
-            put(out, b" by ")?;
-            put(out, name.as_slice())?;
+            out.put(b" by ");
+            out.put(name.as_slice());
         }
     }
-    condition(alloc, out, &select.condition)?;
+    condition(out, &select.condition);
     for item in select.order.as_slice() {
-        put(out, if item.descending { b" -" } else { b" +" })?;
-        put(out, item.column.as_slice())?;
+        out.put(if item.descending { b" -" } else { b" +" });
+        out.put(item.column.as_slice());
     }
     if select.skip > 0 {
-        put(out, b" skip ")?;
-        number(alloc, out, select.skip as i128)?;
+        out.put(b" skip ");
+        out.put_number(select.skip as i128);
     }
     if let Some(most) = select.most {
-        put(out, b" most ")?;
-        number(alloc, out, most as i128)?;
+        out.put(b" most ");
+        out.put_number(most as i128);
     }
-    Ok(())
 }
 
 fn collation(collation: Collation) -> &'static [u8] {
@@ -230,200 +238,202 @@ fn collation(collation: Collation) -> &'static [u8] {
     }
 }
 
-fn kind(alloc: Global, out: &mut Vec<u8>, kind: KindText) -> Result<(), AllocError> {
+fn kind(out: &mut Printer, kind: KindText) {
     match kind {
-        KindText::Int => put(out, b" int"),
-        KindText::IntUnsigned => put(out, b" uint"),
-        KindText::BigInt => put(out, b" big"),
-        KindText::BigIntUnsigned => put(out, b" ubig"),
+        KindText::Int => out.put(b" int"),
+        KindText::IntUnsigned => out.put(b" uint"),
+        KindText::BigInt => out.put(b" big"),
+        KindText::BigIntUnsigned => out.put(b" ubig"),
         KindText::VarChar(length, how) => {
-            put(out, b" char")?;
-            put(out, length.to_string(alloc)?.into_bytes().as_slice())?;
-            put(out, collation(how))
+            out.put(b" char");
+            out.put_number(length as i128);
+            out.put(collation(how))
         }
         KindText::VarBinary(length) => {
-            put(out, b" bin")?;
-            put(out, length.to_string(alloc)?.into_bytes().as_slice())
+            out.put(b" bin");
+            out.put_number(length as i128)
         }
     }
 }
 
-fn column(alloc: Global, out: &mut Vec<u8>, column: &ColumnText) -> Result<(), AllocError> {
-    put(out, b" ")?;
-    put(out, column.name.as_slice())?;
-    kind(alloc, out, column.kind)?;
+fn column(out: &mut Printer, column: &ColumnText) {
+    out.put(b" ");
+    out.put(column.name.as_slice());
+    kind(out, column.kind);
     if !column.nullable {
-        put(out, b" not")?;
+        out.put(b" not");
     }
     if let Some(v) = &column.default {
-        put(out, b" =")?;
-        value(alloc, out, v)?;
+        out.put(b" =");
+        value(out, v);
     }
-    put(out, b",")
+    out.put(b",")
 }
 
-fn key(out: &mut Vec<u8>, key: &KeyText) -> Result<(), AllocError> {
-    put(
-        out,
-        if key.primary {
-            b" primary"
-        } else if key.unique {
-            b" unique "
-        } else {
-            b" key "
-        },
-    )?;
-    put(out, key.name.as_slice())?;
-    names(out, &key.columns)?;
-    put(out, key.comment.as_slice())
+fn key(out: &mut Printer, key: &KeyText) {
+    out.put(if key.primary {
+        b" primary"
+    } else if key.unique {
+        b" unique "
+    } else {
+        b" key "
+    });
+    out.put(key.name.as_slice());
+    names(out, &key.columns);
+    out.put(key.comment.as_slice())
 }
 
-fn table(alloc: Global, out: &mut Vec<u8>, table: &TableText) -> Result<(), AllocError> {
-    put(out, table.name.as_slice())?;
+fn table(out: &mut Printer, table: &TableText) {
+    out.put(table.name.as_slice());
     for part in table.columns.as_slice() {
-        column(alloc, out, part)?;
+        column(out, part);
     }
     for part in table.keys.as_slice() {
-        key(out, part)?;
+        key(out, part);
     }
-    put(out, b" '")?;
-    put(out, table.comment.as_slice())?;
-    put(out, b"'")
+    out.put(b" '");
+    out.put(table.comment.as_slice());
+    out.put(b"'")
 }
 
-fn key_name(out: &mut Vec<u8>, name: &KeyName) -> Result<(), AllocError> {
-    put(out, name.table.as_slice())?;
-    put(out, b".")?;
-    put(out, name.key.as_slice())
+fn key_name(out: &mut Printer, name: &KeyName) {
+    out.put(name.table.as_slice());
+    out.put(b".");
+    out.put(name.key.as_slice())
 }
 
-fn schema(alloc: Global, out: &mut Vec<u8>, statement: &Statement) -> Result<(), AllocError> {
+fn schema(out: &mut Printer, statement: &Statement) {
     match statement {
         Statement::CreateTable {
             text,
             if_not_exists,
             engine,
         } => {
-            put(out, b"table ")?;
-            table(alloc, out, text)?;
+            out.put(b"table ");
+            table(out, text);
             if *if_not_exists {
-                put(out, b" mild")?;
+                out.put(b" mild");
             }
             if let Some(engine) = engine {
-                put(out, b" engine ")?;
-                put(out, engine.as_slice())?;
+                out.put(b" engine ");
+                out.put(engine.as_slice());
             }
-            Ok(())
         }
         Statement::DropTable { table, if_exists } => {
-            put(out, b"drop ")?;
-            put(out, table.as_slice())?;
-            put(out, if *if_exists { b" mild" } else { b"" })
+            out.put(b"drop ");
+            out.put(table.as_slice());
+            out.put(if *if_exists { b" mild" } else { b"" })
         }
         Statement::CreateIndex { table, key: made } => {
-            put(out, b"index ")?;
-            put(out, table.as_slice())?;
+            out.put(b"index ");
+            out.put(table.as_slice());
             key(out, made)
         }
         Statement::DropIndex(name) => {
-            put(out, b"drop ")?;
+            out.put(b"drop ");
             key_name(out, name)
         }
         Statement::BeginIndex { table, key: made } => {
-            put(out, b"begin ")?;
-            put(out, table.as_slice())?;
+            out.put(b"begin ");
+            out.put(table.as_slice());
             key(out, made)
         }
         Statement::FinishIndex(name) => {
-            put(out, b"finish ")?;
+            out.put(b"finish ");
             key_name(out, name)
         }
         Statement::CancelIndex(name) => {
-            put(out, b"cancel ")?;
+            out.put(b"cancel ");
             key_name(out, name)
         }
-        _ => Ok(()),
+        _ => {}
     }
 }
 
-fn on_rows(alloc: Global, out: &mut Vec<u8>, statement: &Statement) -> Result<(), AllocError> {
+fn on_rows(out: &mut Printer, statement: &Statement) {
     match statement {
         Statement::Insert(parts) => {
-            put(out, b"insert ")?;
-            insert(alloc, out, parts)
+            out.put(b"insert ");
+            insert(out, parts)
         }
         Statement::Replace(parts) => {
-            put(out, b"replace ")?;
-            insert(alloc, out, parts)
+            out.put(b"replace ");
+            insert(out, parts)
         }
         Statement::Update {
             table,
             set: items,
             condition: test,
         } => {
-            put(out, b"update ")?;
-            put(out, table.as_slice())?;
+            out.put(b"update ");
+            out.put(table.as_slice());
             for item in items.as_slice() {
-                set(alloc, out, item)?;
+                set(out, item);
             }
-            condition(alloc, out, test)
+            condition(out, test)
         }
         Statement::Delete {
             table,
             condition: test,
         } => {
-            put(out, b"delete ")?;
-            put(out, table.as_slice())?;
-            condition(alloc, out, test)
+            out.put(b"delete ");
+            out.put(table.as_slice());
+            condition(out, test)
         }
         Statement::Select(parts) => {
-            put(out, b"select ")?;
-            select(alloc, out, parts)
+            out.put(b"select ");
+            select(out, parts)
         }
-        _ => Ok(()),
+        _ => {}
     }
 }
 
-fn session(alloc: Global, out: &mut Vec<u8>, statement: &Statement) -> Result<(), AllocError> {
+fn session(out: &mut Printer, statement: &Statement) {
     match statement {
-        Statement::Begin { snapshot } => put(out, if *snapshot { b"snapshot" } else { b"begin" }),
-        Statement::Commit => put(out, b"commit"),
-        Statement::Rollback => put(out, b"rollback"),
+        Statement::Begin { snapshot } => out.put(if *snapshot { b"snapshot" } else { b"begin" }),
+        Statement::Commit => out.put(b"commit"),
+        Statement::Rollback => out.put(b"rollback"),
         Statement::RollbackTo(name) => {
-            put(out, b"to ")?;
-            put(out, name.as_slice())
+            out.put(b"to ");
+            out.put(name.as_slice())
         }
         Statement::Savepoint(name) => {
-            put(out, b"savepoint ")?;
-            put(out, name.as_slice())
+            out.put(b"savepoint ");
+            out.put(name.as_slice())
         }
         Statement::Release(name) => {
-            put(out, b"release ")?;
-            put(out, name.as_slice())
+            out.put(b"release ");
+            out.put(name.as_slice())
         }
         Statement::Lock(list) => {
-            put(out, b"lock ")?;
+            out.put(b"lock ");
             names(out, list)
         }
-        Statement::Unlock => put(out, b"unlock"),
+        Statement::Unlock => out.put(b"unlock"),
         Statement::Session(name) => {
-            put(out, b"session ")?;
-            put(out, name.as_slice())
+            out.put(b"session ");
+            out.put(name.as_slice())
         }
-        Statement::Disconnect => put(out, b"disconnect"),
+        Statement::Disconnect => out.put(b"disconnect"),
         Statement::Work(units) => {
-            put(out, b"work ")?;
-            number(alloc, out, *units as i128)
+            out.put(b"work ");
+            out.put_number(*units as i128)
         }
-        _ => Ok(()),
+        _ => {}
     }
 }
 
 /// The statement in a short form.
 pub fn printed(alloc: Global, statement: &Statement) -> Result<Vec<u8>, AllocError> {
-    let mut out = Vec::new(alloc);
-    schema(alloc, &mut out, statement)?;
-    on_rows(alloc, &mut out, statement)?;
-    session(alloc, &mut out, statement)?;
-    Ok(out)
+    let mut out = Printer {
+        text: Vec::new(alloc),
+        is_cut: false,
+    };
+    schema(&mut out, statement);
+    on_rows(&mut out, statement);
+    session(&mut out, statement);
+    if out.is_cut {
+        return Err(AllocError);
+    }
+    Ok(out.text)
 }

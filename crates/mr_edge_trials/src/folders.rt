@@ -1,7 +1,7 @@
 //! A folder that is missing, then written, then opened again by another host, once the first one has let it go.
 
-use super::*;
 use mr_base::Disk;
+use mr_edge::FolderHost;
 use std::fs;
 use std::fs::Files;
 use std::test::Fail;

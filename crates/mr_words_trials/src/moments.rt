@@ -1,7 +1,7 @@
 //! Words in form and words in none, as tables.
 
-use super::*;
 use mr_base::Memory;
+use mr_moments::{Moments, moments_of};
 use std::alloc::Global;
 use std::test::Fail;
 

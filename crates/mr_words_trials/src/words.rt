@@ -1,7 +1,7 @@
 //! Words in form and words in none, as a table.
 
-use super::*;
 use mr_base::Memory;
+use mr_words::{Options, folders, is_form, options_of};
 use std::alloc::Global;
 use std::test::Fail;
 
