@@ -15,7 +15,7 @@ use Rattle.mr_rowval.specs.RowValue.{is_stamp_at, is_column_stamp, is_stamp_of, 
 use Rattle.mr_rowval.specs.Promises.{HasKinds}
 use Rattle.mr_rowval.proofs.RowTrip.{wanted_again, held_of_row, full_again_all, column_at, found_again, stamp_again}
 use Rattle.mr_rowval.proofs.RowAgain.{key_back}
-use Rattle.mr_entry.specs.Entry.{entry_places}
+use Rattle.mr_entry.specs.Entry.{entry_places, entry_key, entry_value}
 use Rattle.mr_entry.specs.Held.{HeldEntry, forms_held, is_place_stamp, is_ttl_stamp, stamped_entry, entry_held, HoldsRow}
 use Rattle.mr_entry.proofs.Copying.{ReadKey}
 
@@ -38,7 +38,7 @@ abbrev entry_ok : HeldEntry → ReadEntry
 entry_ok entry = Ok entry
 
 -- what the entry of the row holds
-abbrev entry_of_row : TableDef → List ℕ → Row → HeldEntry
+abbrev pub entry_of_row : TableDef → List ℕ → Row → HeldEntry
 entry_of_row def places row = record { def = def; places = places; hidden = row.hidden; stamp = row.stamp; held = held_of_row def.columns row.fields places }
 
 forms_back : (def : TableDef) (places : List ℕ) (row : Row) → HasKinds def.columns → IsRowOf def row → forms_held def places (parts_bytes def.columns row.fields places ++ hidden_bytes row.hidden) row.hidden (hidden_bytes row.stamp ++ parts_unpack def.columns row.fields places) ≡ entry_ok (entry_of_row def places row)
@@ -50,7 +50,7 @@ forms_back def places row real is =
 
 -- ---- the values, and the stamp among them
 
-its_value : (def : TableDef) (places : List ℕ) (row : Row) (p : ℕ) (value : Value) → IsRowOf def row → is_in places p ≡ true → slice_get row.fields p ≡ Some value → found (held_of_row def.columns row.fields places) p ≡ value
+pub its_value : (def : TableDef) (places : List ℕ) (row : Row) (p : ℕ) (value : Value) → IsRowOf def row → is_in places p ≡ true → slice_get row.fields p ≡ Some value → found (held_of_row def.columns row.fields places) p ≡ value
 its_value def places row p value is there e =
     let column = column_at def.columns row.fields p value is.fields e in
     found_again def.columns row.fields places p column.0 value column.1 e there
@@ -71,8 +71,8 @@ stamp_passes : (def : TableDef) (places : List ℕ) (row : Row) (ttl : Option Tt
 stamp_passes def places row None is test = refl
 stamp_passes def places row (Some ttl) is test = by_column def places row ttl.column is test
 
-pub entry_is_held : (def : TableDef) (numbers : List ℕ) (row : Row) (i : ℕ) → slice_index_or numbers (suc i) 0 < 2 ^ 32 → HasKinds def.columns → IsRowOf def row → HoldsRow def numbers row (suc i)
-entry_is_held def numbers row i small real is =
+pub row_reads : (def : TableDef) (numbers : List ℕ) (row : Row) (i : ℕ) → slice_index_or numbers (suc i) 0 < 2 ^ 32 → HasKinds def.columns → IsRowOf def row → entry_held def (entry_places def (suc i)) (entry_key def numbers row (suc i)) (entry_value def row (suc i)) ≡ entry_ok (entry_of_row def (entry_places def (suc i)) row)
+row_reads def numbers row i small real is =
     let number = slice_index_or numbers (suc i) 0 in
     let places = entry_places def (suc i) in
     let value = hidden_bytes row.stamp ++ parts_unpack def.columns row.fields places in
@@ -80,10 +80,15 @@ entry_is_held def numbers row i small real is =
     let entry = entry_of_row def places row in
     let test = stamp_passes def places row def.ttl is (stamp_again def.ttl row is.stamp is.stamp_column) in
     let passes : stamped_entry (length value) entry ≡ entry_ok entry = rw test refl in
+    key_is_read def places (key_bytes_of number def places row) value body row.hidden (key_back number def places row small is)
+    ∙ ap (λ (r : ReadEntry). r >>= stamped_entry (length value)) (forms_back def places row real is) ∙ passes
+
+pub entry_is_held : (def : TableDef) (numbers : List ℕ) (row : Row) (i : ℕ) → slice_index_or numbers (suc i) 0 < 2 ^ 32 → HasKinds def.columns → IsRowOf def row → HoldsRow def numbers row (suc i)
+entry_is_held def numbers row i small real is =
+    let places = entry_places def (suc i) in
     record {
-      entry = entry;
-      reads = key_is_read def places (key_bytes_of number def places row) value body row.hidden (key_back number def places row small is)
-          ∙ ap (λ (r : ReadEntry). r >>= stamped_entry (length value)) (forms_back def places row real is) ∙ passes;
+      entry = entry_of_row def places row;
+      reads = row_reads def numbers row i small real is;
       hidden = refl;
       stamp = refl;
       fields = λ p v there e. its_value def places row p v is there e;

@@ -1,6 +1,6 @@
 //! An entry of a secondary key that is read where it lies.
 
-ghost use Rattle.std.specs.Prelude.{◌≡◌, ◌+◌, ◌<◌, length, pos};
+ghost use Rattle.std.specs.Prelude.{◌≡◌, ◌+◌, ◌<◌, ◌++◌, OnOk, length, pos};
 ghost use Rattle.mr_types.specs.declared.kind.Kind.{Kind};
 ghost use Rattle.mr_types.specs.declared.value.Value.TheVariants.{Number as ANumber};
 ghost use Rattle.mr_types.specs.FieldValues.{field_value};
@@ -8,12 +8,15 @@ ghost use Rattle.mr_types.specs.Values.{is_equal};
 ghost use Rattle.mr_rowval.specs.KeyParts.{found, is_in};
 ghost use Rattle.mr_rowval.specs.Walking.{kind_at};
 ghost use Rattle.mr_entry.specs.Held.{forms_held, is_ttl_stamp, entry_held, TakesEntry, GivesEntry};
+ghost use Rattle.mr_entry.specs.Primary.{primary_key_held};
 
+use crate::primary::{are_bytes, push_number, push_parts};
 use crate::rows::forms_at;
 use mr_base::Malformed;
 use mr_pieces::BytesLeft;
-use mr_rowval::{held_field, is_hidden, is_in, key_at};
+use mr_rowval::{held_field, is_hidden, is_in, key_at, push_stamp};
 use mr_types::{FieldRef, TableDef};
+use std::alloc::AllocError;
 use std::marker::Model;
 
 /// An entry of a secondary key, which borrows its key and its value. Contracts see the definition,
@@ -160,4 +163,28 @@ impl<'a> EntryRef<'a> {
             },
         }
     }
+}
+
+/// Adds to `out` the primary key of the row whose entry this is, behind the number of that index:
+/// the columns, as their bytes stand in the entry's key, and the hidden number. A column that the
+/// entry doesn't hold is NULL. It takes no memory but that of `out`.
+pub fn primary_key_of_entry(
+    entry: &EntryRef<'_>,
+    number: u32,
+    out: &mut Vec<u8>,
+) -> Result<(), AllocError>
+    ensures { OnOk result (out.new.items ≡ out.old.items ++ primary_key_held number entry.now) }
+{
+    are_bytes(entry.body);
+    are_bytes(entry.unpack);
+    push_number(out, number)?;
+    push_parts(
+        out,
+        entry.def.columns.as_slice(),
+        entry.places,
+        entry.body,
+        entry.def.primary.columns.as_slice(),
+    )?;
+    push_stamp(out, entry.hidden)?;
+    Ok(())
 }

@@ -6,6 +6,7 @@ ghost use Rattle.mr_types.specs.declared.row.Row.{Row};
 ghost use Rattle.mr_types.specs.Rows.{IsRowOf};
 ghost use Rattle.mr_rowval.specs.Promises.{HasKinds};
 ghost use Rattle.mr_entry.specs.Held.{HoldsRow};
+ghost use Rattle.mr_entry.specs.Primary.{LeadsToRow};
 ghost use Rattle.mr_entry.specs.Promises.{IsCovering, HasColumns, EntryComesBack, OnlyEntriesAreRead};
 
 /// The entry of a row, in an index that covers all columns, is read again as that row.
@@ -23,4 +24,10 @@ pub fn only_entries_are_read()
 /// and each column of its key byte for byte.
 pub fn entries_are_held()
     ensures { (def : TableDef) (numbers : List ℕ) (row : Row) (i : ℕ) → slice_index_or numbers (suc i) 0 < 2 ^ 32 → HasKinds def.columns → IsRowOf def row → HoldsRow def numbers row (suc i) }
+{}
+
+/// The primary key that is made from the entry of a row in a secondary key is the row's own, byte
+/// for byte, under any number of that index.
+pub fn entries_lead_to_rows()
+    ensures { (def : TableDef) (numbers : List ℕ) (row : Row) (i : ℕ) → slice_index_or numbers (suc i) 0 < 2 ^ 32 → HasKinds def.columns → IsRowOf def row → LeadsToRow def numbers row (suc i) }
 {}

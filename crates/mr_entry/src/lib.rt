@@ -10,10 +10,11 @@ mod entries;
 mod entry_ref;
 mod laws;
 mod places;
+mod primary;
 mod rows;
 
 pub use entries::entries_of;
-pub use entry_ref::EntryRef;
-pub use laws::{entries_are_held, entries_come_back, only_entries_are_read};
+pub use entry_ref::{EntryRef, primary_key_of_entry};
+pub use laws::{entries_are_held, entries_come_back, entries_lead_to_rows, only_entries_are_read};
 pub use places::{covers, places_of};
 pub use rows::row_of_entry;

@@ -1,1 +1,5 @@
 pub mod PrimaryOrder
+pub mod Distinct
+pub mod CheckedDefinitions
+pub mod KeyBytes
+pub mod KeySizes

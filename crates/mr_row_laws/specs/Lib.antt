@@ -1,1 +1,2 @@
 pub mod PrimaryOrder
+pub mod Codable
