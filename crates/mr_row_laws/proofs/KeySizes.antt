@@ -51,7 +51,7 @@ whole_text : (text : List ℕ) → 8 * length (text_from 8 text) ≤ 9 * length 
 whole_text [] = omega arith
 whole_text (c ∷ text) = let more = text_size 7 text (omega arith) in omega arith
 
-trimmed_size : (text : List ℕ) → length (trimmed text) ≤ length text
+pub trimmed_size : (text : List ℕ) → length (trimmed text) ≤ length text
 trimmed_size [] = omega arith
 trimmed_size (c ∷ text) = onto c (trimmed text) (length text) (trimmed_size text)
   where
@@ -63,7 +63,7 @@ trimmed_size (c ∷ text) = onto c (trimmed text) (length text) (trimmed_size te
     onto c [] n h = let one = by_test (c == 32) c in omega arith
     onto c (x ∷ xs) n h = omega arith
 
-folded_size : (c : Collation) (text : List ℕ) → length (folded c text) ≡ length text
+pub folded_size : (c : Collation) (text : List ℕ) → length (folded c text) ≡ length text
 folded_size Bin text = refl
 folded_size Ci text = length-map text upper
 
@@ -116,7 +116,7 @@ column_size : (column : ColumnDef) (v : Value) → assign_to column.ty v ≡ Ok 
 unfolding column_bytes
 column_size column v e = by_flag column.ty.nullable column.ty.kind v (value_size column.ty.nullable column.ty.kind v e)
 
-abbrev width_at : List ColumnDef → ℕ → ℕ
+abbrev pub width_at : List ColumnDef → ℕ → ℕ
 width_at columns p = option_map_or (λ c. key_bytes c.ty.kind) (slice_get columns p) 0
 
 part_size : (columns : List ColumnDef) (fields : List Value) (p : ℕ) → AreFields columns fields → 8 * length (part_bytes (slice_get columns p) (slice_get fields p)) ≤ 9 * width_at columns p + 80
@@ -126,7 +126,7 @@ part_size (column ∷ columns) [] p h = absurd h
 part_size (column ∷ columns) (v ∷ fields) zero h = column_size column v h.0.as_it_is
 part_size (column ∷ columns) (v ∷ fields) (suc p) h = part_size columns fields p h.1
 
-width_cons : (columns : List ColumnDef) (p : ℕ) (places : List ℕ) → width_of columns (p ∷ places) ≡ width_at columns p + width_of columns places
+pub width_cons : (columns : List ColumnDef) (p : ℕ) (places : List ℕ) → width_of columns (p ∷ places) ≡ width_at columns p + width_of columns places
 width_cons columns p places = sum-map (width_at columns) (p ∷ places) ∙ sum_by-cons (width_at columns) p places ∙ ap (λ n. width_at columns p + n) (sym (sum-map (width_at columns) places))
 
 parts_size : (columns : List ColumnDef) (fields : List Value) (places : List ℕ) → AreFields columns fields → 8 * length (parts_bytes columns fields places) ≤ 9 * width_of columns places + 80 * length places
@@ -151,16 +151,16 @@ rest_size columns own (q ∷ primary) = by_test columns (is_in own q) q (not_amo
     by_test columns true q l primary h k = (omega arith, omega (arith, width_cons columns q primary))
     by_test columns false q l primary h k = (omega arith, omega (arith, width_cons columns q l, width_cons columns q primary))
 
-record AreFew (columns : List ColumnDef) (places : List ℕ) : Type 0 where
-  few : length places ≤ 32
-  narrow : width_of columns places ≤ 1534
+pub record AreFew (columns : List ColumnDef) (places : List ℕ) : Type 0 where
+  pub few : length places ≤ 32
+  pub narrow : width_of columns places ≤ 1534
 
 own_few : (columns : List ColumnDef) (keys : List IndexDef) (i : ℕ) → AllByRecursion (IsIndex columns) keys → (length (columns_of (slice_get keys i)) ≤ 16) × (width_of columns (columns_of (slice_get keys i)) ≤ 767)
 own_few columns [] i all = (omega arith, omega arith)
 own_few columns (key ∷ keys) zero all = (all.0.few, all.0.narrow)
 own_few columns (key ∷ keys) (suc i) all = own_few columns keys i all.1
 
-few : (def : TableDef) (index : ℕ) → IsFormed def → AreFew def.columns (entry_places def index)
+pub few : (def : TableDef) (index : ℕ) → IsFormed def → AreFew def.columns (entry_places def index)
 few def zero formed = let a = formed.primary.few in let b = formed.primary.narrow in record { few = omega arith; narrow = omega arith }
 few def (suc i) formed =
     let own = columns_of (slice_get def.secondary i) in
@@ -172,7 +172,7 @@ few def (suc i) formed =
       narrow = omega (arith, o.1, r.1, formed.primary.narrow, width_append def.columns own (not_among own primary));
     }
 
-hidden_size : (o : Option ℕ) → length (hidden_bytes o) ≤ 8
+pub hidden_size : (o : Option ℕ) → length (hidden_bytes o) ≤ 8
 hidden_size None = omega arith
 hidden_size (Some n) = omega (arith, length-bytes_high_first 8 n)
 

@@ -3,3 +3,4 @@ pub mod Distinct
 pub mod CheckedDefinitions
 pub mod KeyBytes
 pub mod KeySizes
+pub mod EntrySizes

@@ -1,7 +1,7 @@
 //! Laws that join keys, rows and entries to what the SQL profile says of rows and definitions.
 #![tactic(auto)]
 
-ghost use Rattle.std.specs.Prelude.{◌≡◌, ◌≤◌, ◌↔◌, ℕ, length, true, List, Ok, Option};
+ghost use Rattle.std.specs.Prelude.{◌≡◌, ◌≤◌, ◌+◌, ◌↔◌, ℕ, length, true, List, Ok, Option};
 ghost use Rattle.std.specs.List.{AllByRecursion};
 ghost use Rattle.mr_types.specs.declared.definition.TableDef.{TableDef};
 ghost use Rattle.mr_types.specs.declared.row.Row.{Row};
@@ -10,8 +10,9 @@ ghost use Rattle.mr_types.specs.Rows.{IsRowOf};
 ghost use Rattle.mr_memcmp.specs.ComeBack.{AreBytes};
 ghost use Rattle.mr_memcmp.specs.Keys.{key_bytes_of};
 ghost use Rattle.mr_memcmp.specs.Parts.{row_key};
-ghost use Rattle.mr_entry.specs.Entry.{entry_places};
+ghost use Rattle.mr_entry.specs.Entry.{entry_places, entry_value};
 ghost use Rattle.mr_spec.specs.Checks.{check};
+ghost use Rattle.mr_spec.specs.Weight.{row_size};
 ghost use Rattle.mr_spec.specs.Lawful.{IsChecked, is_row_of};
 ghost use Rattle.mr_table_rows.specs.StampColumns.{HasNumbersOf64Bits};
 ghost use Rattle.mr_row_laws.specs.PrimaryOrder.{PrimaryKeysInOrder};
@@ -44,4 +45,10 @@ pub fn row_keys_are_bytes()
 /// the columns of the primary key behind its own.
 pub fn keys_are_short()
     ensures { (text : TableText) (def : TableDef) (row : Row) (number index : ℕ) → check text ≡ Ok def → IsRowOf def row → length (key_bytes_of number def (entry_places def index) row) ≤ 8192 }
+{}
+
+/// The value of a row's entry in any index of a checked definition has at most 2,048 bytes more than
+/// the row's form.
+pub fn entries_are_short()
+    ensures { (text : TableText) (def : TableDef) (row : Row) (index : ℕ) → check text ≡ Ok def → IsRowOf def row → length (entry_value def row index) ≤ 2048 + row_size row }
 {}
