@@ -21,6 +21,13 @@ impl Printer {
         }
     }
 
+    fn put_length(&mut self, length: u128) {
+        match length.to_string(*self.text.allocator()) {
+            Ok(digits) => self.put(digits.as_bytes()),
+            Err(_) => self.is_cut = true,
+        }
+    }
+
     fn put_number(&mut self, number: i128) {
         match number.to_string(*self.text.allocator()) {
             Ok(digits) => self.put(digits.as_bytes()),
@@ -246,12 +253,12 @@ fn kind(out: &mut Printer, kind: KindText) {
         KindText::BigIntUnsigned => out.put(b" ubig"),
         KindText::VarChar(length, how) => {
             out.put(b" char");
-            out.put_number(length as i128);
+            out.put_length(length);
             out.put(collation(how))
         }
         KindText::VarBinary(length) => {
             out.put(b" bin");
-            out.put_number(length as i128)
+            out.put_length(length)
         }
     }
 }
