@@ -1,0 +1,3 @@
+pub mod Pinned
+pub mod Found
+pub mod Laws

@@ -1,0 +1,7 @@
+//! A cursor over a run.
+#![tactic(auto)]
+
+mod blocks;
+mod cursor;
+
+pub use cursor::PinnedCursor;
