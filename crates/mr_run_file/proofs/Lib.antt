@@ -1,2 +1,5 @@
-mod Lists
+pub mod Fields
+pub mod Indexes
+pub mod Lists
 mod Worked
+pub mod Written

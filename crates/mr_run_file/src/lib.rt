@@ -3,4 +3,4 @@
 
 mod laws;
 
-pub use laws::{run_files_have_one_list, runs_have_one_list};
+pub use laws::{run_files_have_one_list, runs_have_one_list, written_runs_are_read};

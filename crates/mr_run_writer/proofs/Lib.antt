@@ -1,0 +1,5 @@
+mod Blocks
+mod Drafting
+mod Elsewhere
+mod Holding
+mod Results

@@ -1,0 +1,4 @@
+pub mod Buffers
+pub mod Cuts
+pub mod Drafts
+pub mod Outs
