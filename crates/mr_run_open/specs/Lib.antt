@@ -1,0 +1,4 @@
+pub mod Runs
+pub mod Blocks
+pub mod Parts
+pub mod Given
