@@ -119,30 +119,55 @@ fn read_all_many(row: &RowRef<'_>, count: u32) -> usize {
     sum
 }
 
+/// Times reading that judges each row.
+fn time_judging(rt: &HostRuntime, def: &TableDef, value: &[u8], count: u32) -> io::Result<()> {
+    let start = Instant::now(rt)?;
+    let sum = judge_many(def, value, count);
+    let took = start.elapsed(rt)?.as_micros();
+    println!(rt; "{count} rows judged, 3 columns each: {took} us ({sum} bytes)")
+}
+
+/// Times reading of columns of a row that is known to be one.
+fn time_reading(rt: &HostRuntime, row: &RowRef<'_>, count: u32) -> io::Result<()> {
+    let start = Instant::now(rt)?;
+    let sum = read_many(row, count);
+    let took = start.elapsed(rt)?.as_micros();
+    println!(rt; "{count} times 3 columns: {took} us ({sum} bytes)")?;
+    let start = Instant::now(rt)?;
+    let sum = read_all_many(row, count);
+    let took = start.elapsed(rt)?.as_micros();
+    println!(rt; "{count} times 20 columns: {took} us ({sum} bytes)")
+}
+
+fn time_rows(rt: &HostRuntime, def: &TableDef, value: &[u8], count: u32) -> io::Result<()> {
+    time_judging(rt, def, value, count)?;
+    match RowRef::decode(def, KEY, value) {
+        Ok(row) => time_reading(rt, &row, count),
+        Err(_) => Ok(()),
+    }
+}
+
+fn time_table(rt: &HostRuntime, def: &TableDef, count: u32) -> io::Result<()> {
+    match value(rt.alloc()) {
+        Ok(value) => time_rows(rt, def, value.as_slice(), count),
+        Err(_) => Ok(()),
+    }
+}
+
+fn time(rt: &HostRuntime, count: u32) -> io::Result<()> {
+    match table(rt.alloc()) {
+        Ok(def) => time_table(rt, &def, count),
+        Err(_) => Ok(()),
+    }
+}
+
 fn main(rt: HostRuntime) -> io::Result<()> {
     for word in env::args(&rt)?.skip(1) {
         let count = match word.as_str() {
             "1000000" => 1000000,
             _ => 100000,
         };
-        let (Ok(def), Ok(value)) = (table(rt.alloc()), value(rt.alloc())) else {
-            return Ok(());
-        };
-        let start = Instant::now(&rt)?;
-        let sum = judge_many(&def, value.as_slice(), count);
-        let took = start.elapsed(&rt)?.as_micros();
-        println!(rt; "{count} rows judged, 3 columns each: {took} us ({sum} bytes)")?;
-        let Ok(row) = RowRef::decode(&def, KEY, value.as_slice()) else {
-            return Ok(());
-        };
-        let start = Instant::now(&rt)?;
-        let sum = read_many(&row, count);
-        let took = start.elapsed(&rt)?.as_micros();
-        println!(rt; "{count} times 3 columns: {took} us ({sum} bytes)")?;
-        let start = Instant::now(&rt)?;
-        let sum = read_all_many(&row, count);
-        let took = start.elapsed(&rt)?.as_micros();
-        println!(rt; "{count} times 20 columns: {took} us ({sum} bytes)")?;
+        time(&rt, count)?;
     }
     Ok(())
 }
