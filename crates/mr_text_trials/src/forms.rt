@@ -1,9 +1,7 @@
 //! A worked definition, and bytes that are none.
 
 use mr_base::{Blob, DefAnswer, Memory};
-use mr_parse::parse_statement;
-use mr_schema::{check_key, read_def, write_def};
-use mr_types::{Refused, Statement};
+use mr_schema::{read_def, write_def};
 use std::alloc::Global;
 use std::test::Fail;
 
@@ -86,63 +84,6 @@ fn changes_are_told(alloc: Global, bytes: &[u8], sizes: &[u8]) -> Result<bool, M
         }
     }
     Ok(true)
-}
-
-/// The code of what is answered where a statement asks for a key beside the definition, 0 where nothing is refused.
-fn code_of_key(alloc: Global, text: &[u8]) -> Result<u16, DefAnswer> {
-    let def = read_def(alloc, DEFINITION)?;
-    let Ok(Statement::CreateIndex { key, .. }) = parse_statement(alloc, text) else {
-        return Err(DefAnswer::Memory);
-    };
-    if def.columns.len() > 255 {
-        return Err(DefAnswer::Memory);
-    }
-    match check_key(alloc, &def, &key) {
-        Ok(_) => Ok(0),
-        Err(Refused::Sql(code)) => Ok(code),
-        Err(Refused::Memory) => Err(DefAnswer::Memory),
-    }
-}
-
-#[test]
-fn keys_beside_a_definition(rt: HostRuntime) -> Result<(), Fail> {
-    assert_eq!(rt;
-        code_of_key(rt.alloc(), b"CREATE INDEX j ON t (v,x)"),
-        Ok(0)
-    );
-    assert_eq!(rt;
-        code_of_key(rt.alloc(), b"CREATE INDEX K ON t (v)"),
-        Ok(1061)
-    );
-    assert_eq!(rt;
-        code_of_key(rt.alloc(), b"CREATE INDEX j ON t (w)"),
-        Ok(1072)
-    );
-    Ok(())
-}
-
-/// The definition's bytes without its secondary key.
-const WITHOUT_KEY: &[u8] =
-    b"\x01t\x03\x02id\x03\0\0\0\0\0\x01v\x05\0\x14\x02\x01\x01\x03\0\x01a\x01x\x04\0\0\0\0\0\x01\0\0\0\0\0\x18ttl_duration=7;ttl_col=x";
-
-/// The bytes of the definition without its first secondary key.
-fn written_without(alloc: Global) -> Result<Blob, DefAnswer> {
-    let def = read_def(alloc, DEFINITION)?;
-    if def.secondary.is_empty() {
-        return Err(DefAnswer::Memory);
-    }
-    Ok(write_def(alloc, &def.without_key(alloc, 0)?)?)
-}
-
-/// Whether these are the bytes of the definition without its first secondary key.
-fn is_without(alloc: Global, bytes: &[u8]) -> Result<bool, DefAnswer> {
-    Ok(written_without(alloc)?.as_slice() == bytes)
-}
-
-#[test]
-fn a_key_is_taken_out(rt: HostRuntime) -> Result<(), Fail> {
-    assert_eq!(rt; is_without(rt.alloc(), WITHOUT_KEY), Ok(true));
-    Ok(())
 }
 
 /// How long the rows of the table live, and the column of their stamp.
