@@ -1,0 +1,5 @@
+mod Orders
+mod Putting
+mod Scanning
+mod InOrder
+mod Carrying

@@ -1,0 +1,4 @@
+pub mod Dictionary
+pub mod Lookups
+pub mod Loading
+pub mod Given

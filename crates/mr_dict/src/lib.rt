@@ -1,0 +1,15 @@
+//! The dictionary: the entries of the family `__system__` in memory, by their keys, and how they are
+//! loaded from a cursor.
+#![tactic(auto)]
+
+mod dict;
+mod keys;
+mod loading;
+mod lookups;
+mod passed;
+mod places;
+mod scan;
+
+pub use dict::Dict;
+pub use loading::load;
+pub use mr_dict_entry::{DictEntry, NumberList, key_of_entry, read_entry, write_entry};

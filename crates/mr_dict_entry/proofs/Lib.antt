@@ -1,0 +1,4 @@
+pub mod EntryLaws
+mod TableLaws
+mod Trying
+mod Worked

@@ -1,0 +1,13 @@
+//! The entries of the dictionary: what the store knows of tables, indexes, families and commits, as
+//! keys and values of the family `__system__`, and back.
+#![tactic(auto)]
+
+mod entry;
+mod numbers;
+mod read;
+mod table;
+mod write;
+
+pub use entry::{DictEntry, NumberList};
+pub use read::read_entry;
+pub use write::{key_of_entry, write_entry};
