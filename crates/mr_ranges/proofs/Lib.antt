@@ -1,0 +1,4 @@
+pub mod Order
+pub mod Common
+pub mod Crossing
+mod Sweeping
