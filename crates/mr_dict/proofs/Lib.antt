@@ -3,3 +3,4 @@ mod Putting
 mod Scanning
 mod InOrder
 mod Carrying
+mod Finding
