@@ -4,3 +4,4 @@ mod Scanning
 mod InOrder
 mod Carrying
 mod Finding
+mod Viewing
