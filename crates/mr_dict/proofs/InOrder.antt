@@ -20,17 +20,17 @@ abbrev pub Rise : List Version → Type 0
 Rise [] = Unit {0}
 Rise (v ∷ vs) = AllByRecursion (λ (w : Version). is_lt (cmp v.key w.key) ≡ true) vs × Rise vs
 
-each_more : (P Q : Version → Type 0) (vs : List Version) → ((v : Version) → P v → Q v) → AllByRecursion P vs → AllByRecursion Q vs
+pub each_more : (P Q : Version → Type 0) (vs : List Version) → ((v : Version) → P v → Q v) → AllByRecursion P vs → AllByRecursion Q vs
 each_more P Q [] go all = tt
 each_more P Q (v ∷ vs) go all = (go v all.0, each_more P Q vs go all.1)
 
-apart : (o : Ordering) → is_gt o ≡ false → is_eq o ≡ false → is_lt o ≡ true
+pub apart : (o : Ordering) → is_gt o ≡ false → is_eq o ≡ false → is_lt o ≡ true
 apart Less g e = refl
 apart Equal g e = cc
 apart Greater g e = cc
 
 -- those behind a version have no key before its key
-not_before : (v : Version) (vs : List Version) → IsAtFront (version_cmp Forward) v vs → AllByRecursion (λ (w : Version). is_gt (cmp v.key w.key) ≡ false) vs
+pub not_before : (v : Version) (vs : List Version) → IsAtFront (version_cmp Forward) v vs → AllByRecursion (λ (w : Version). is_gt (cmp v.key w.key) ≡ false) vs
 not_before v vs all = each_more (λ w. is_gt (version_cmp Forward v w) ≡ false) (λ w. is_gt (cmp v.key w.key) ≡ false) vs (λ w not_so. by_key (cmp v.key w.key) (flip_args nat_cmp v.sequence w.sequence) not_so) all
 
 behind_passed : (k : List ℕ) (vs : List Version) → IsInOrder (version_cmp Forward) vs → AllByRecursion (λ (w : Version). is_gt (cmp k w.key) ≡ false) vs → AllByRecursion (λ (w : Version). is_lt (cmp k w.key) ≡ true) (puts_behind (Some k) vs)

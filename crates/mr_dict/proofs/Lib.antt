@@ -3,3 +3,5 @@ mod Putting
 mod Scanning
 mod InOrder
 mod Carrying
+mod Finding
+mod Viewing

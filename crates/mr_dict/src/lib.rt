@@ -4,6 +4,7 @@
 
 mod dict;
 mod keys;
+mod laws;
 mod loading;
 mod lookups;
 mod passed;
@@ -11,5 +12,6 @@ mod places;
 mod scan;
 
 pub use dict::Dict;
+pub use laws::{newest_puts_are_views, put_is_found, removed_is_gone};
 pub use loading::load;
 pub use mr_dict_entry::{DictEntry, NumberList, key_of_entry, read_entry, write_entry};

@@ -1,6 +1,6 @@
 -- Entries are read from their keys and values, and from nothing else.
 use Rattle.std.proofs.Common.{◌≡◌, ℕ, suc, ◌+◌, ◌-◌, ◌^◌, ◌<◌, ◌≤◌, List, [], ◌∷◌, ◌++◌, length, drop, refl, ap, sym, ◌∙◌, subst, arith, Bool, true, false, cond, nat_lt, inl, inr, Option, Some, None, Result, Ok, Err, IfOk}
-use Rattle.std.specs.List.{list_all}
+use Rattle.std.specs.List.{list_all, AllByRecursion}
 use Rattle.std.proofs.lemmas.Bool.{cases_Bool, ltb-false, lt-ltb, le-ltb}
 use Rattle.std.proofs.lemmas.List.{drop_all}
 use Rattle.byteorder.specs.Endian.{big_bytes, big_number}
@@ -17,7 +17,7 @@ use Rattle.mr_schema.proofs.DefinitionLaws.{key_only, key_back}
 use Rattle.mr_dict_entry.specs.declared.entry.DictEntry.{DictEntry}
 use Rattle.mr_dict_entry.specs.declared.entry.DictEntry.TheVariants.{Table, Index, Family, Dropped, Building, Greatest, NextHidden, LastCommit}
 use Rattle.mr_dict_entry.specs.Entries.{kind_of, rest_of, kinded_key, entry_key, entry_value, lone_number_in, is_table_name, is_family_name, numbered_in, table_of, table_in, index_in, family_in, dropped_in, building_in, greatest_in, next_hidden_in, last_commit_in, kinded_in, entry_in, placed_in, reads_entry}
-use Rattle.mr_dict_entry.specs.EntryFitting.{TableFits, EntryFits}
+use Rattle.mr_dict_entry.specs.EntryFitting.{TableFits, EntryFits, NumbersFit}
 use Rattle.mr_dict_entry.specs.Given.{ReadsBack}
 use Rattle.mr_dict_entry.proofs.TableLaws.{no_end, then_ok, in_front, is_long, behind_it, IsTable, numbered_only, numbered_back, named_back}
 
@@ -165,9 +165,9 @@ entry_only key value e f = elim (cases_Bool (nat_lt (length key) 4)) [
 
 -- ---- what is written is read
 
-table_back : (name numbers : List ℕ) (def : TableDef) → TableFits name numbers def → ReadsBack (Table name numbers def) (entry_value (Table name numbers def)) → table_in name (entry_value (Table name numbers def)) ≡ Ok (Table name numbers def)
-table_back name [] def fits clear = let not_so : 0 ≡ suc (length def.secondary) = fits.one_each in absurd (omega (arith, not_so))
-table_back name (number ∷ numbers) def fits clear =
+table_back : (name numbers : List ℕ) (def : TableDef) → TableFits name numbers def → AllByRecursion (λ n. n < 2 ^ 32) numbers → ReadsBack (Table name numbers def) (entry_value (Table name numbers def)) → table_in name (entry_value (Table name numbers def)) ≡ Ok (Table name numbers def)
+table_back name [] def fits small clear = let not_so : 0 ≡ suc (length def.secondary) = fits.one_each in absurd (omega (arith, not_so))
+table_back name (number ∷ numbers) def fits small clear =
     let value : List ℕ = listed_bytes (big_bytes 4) (number ∷ numbers) ++ definition_bytes def in
     let short : length name < 256 = omega (arith, fits.def_fits.name.short, ap (λ (n : List ℕ). length n) fits.name_is) in
     let good : is_table_name name ≡ true = rw (lt-ltb (length name) 256 short) (ap is_name fits.name_is ∙ fits.def_fits.name.is_name) in
@@ -177,7 +177,7 @@ table_back name (number ∷ numbers) def fits clear =
     let one_less : suc (length numbers) - 1 ≡ length numbers = omega arith in
     let read : numbered_in name 256 0 value ≡ Ok (number ∷ numbers, def) =
     ap (λ (m : ℕ). numbered_in name m 0 value) here
-    ∙ numbered_back name def number numbers 0 (length def.secondary) (255 - length numbers) clear.0 fits.numbers_fit (omega (arith, count)) (named_back name def fits.name_is fits.def_fits)
+    ∙ numbered_back name def number numbers 0 (length def.secondary) (255 - length numbers) clear.0 small (omega (arith, count)) (named_back name def fits.name_is fits.def_fits)
     (ap (λ (m : ℕ). numbered_in name m 0 value) (sym one_less) ∙ clear.1) in
     ap (λ (b : Bool). cond b (table_of name (length value) (numbered_in name 256 0 value)) (Err (length name + length value))) good
     ∙ ap (table_of name (length value)) read
@@ -196,29 +196,29 @@ kind_back kind rest value lt r is =
     ∙ ap (λ (t : List ℕ). kinded_in whole kind t value) (behind_it 4 kind rest)
     ∙ is whole
 
-building_back : (number : ℕ) (table : List ℕ) (key : IndexDef) (family : ℕ) (filled : List ℕ) → EntryFits (Building number table key family filled) → building_in (big_bytes 4 number) (entry_value (Building number table key family filled)) ≡ Ok (Building number table key family filled)
-building_back number table key family filled fits =
+building_back : (number : ℕ) (table : List ℕ) (key : IndexDef) (family : ℕ) (filled : List ℕ) → EntryFits (Building number table key family filled) → NumbersFit (Building number table key family filled) → building_in (big_bytes 4 number) (entry_value (Building number table key family filled)) ≡ Ok (Building number table key family filled)
+building_back number table key family filled fits small =
     let value : List ℕ = entry_value (Building number table key family filled) in
-    ap (λ (r : Result ℕ ℕ). r >>= (λ number. name_in value >>= (λ table. key_in 256 table.1 >>= (λ key. number_in 4 key.1 >>= (λ family. text16_in is_any family.1 >>= (λ filled. ended (Building number table.0 key.0 family.0 filled.0, filled.1))))))) (lone_back 4 (length value) number (omega (arith, fits.0)))
-    ∙ last name_in (name_bytes table) (key_bytes key ++ (big_bytes 4 family ++ text16_bytes filled)) table _ _ (λ t. name_back table t fits.1) (
-    last (key_in 256) (key_bytes key) (big_bytes 4 family ++ text16_bytes filled) key _ _ (λ t. key_back 256 key t fits.2) (
-    last (number_in 4) (big_bytes 4 family) (text16_bytes filled) family _ _ (λ t. number_back 4 family t (omega (arith, fits.3))) (
+    ap (λ (r : Result ℕ ℕ). r >>= (λ number. name_in value >>= (λ table. key_in 256 table.1 >>= (λ key. number_in 4 key.1 >>= (λ family. text16_in is_any family.1 >>= (λ filled. ended (Building number table.0 key.0 family.0 filled.0, filled.1))))))) (lone_back 4 (length value) number (omega (arith, small.0)))
+    ∙ last name_in (name_bytes table) (key_bytes key ++ (big_bytes 4 family ++ text16_bytes filled)) table _ _ (λ t. name_back table t fits.0) (
+    last (key_in 256) (key_bytes key) (big_bytes 4 family ++ text16_bytes filled) key _ _ (λ t. key_back 256 key t fits.1) (
+    last (number_in 4) (big_bytes 4 family) (text16_bytes filled) family _ _ (λ t. number_back 4 family t (omega (arith, small.1))) (
     ap (λ (x : List ℕ). text16_in is_any x >>= (λ filled. ended (Building number table key family filled.0, filled.1))) (sym (no_end (text16_bytes filled)))
-    ∙ last (text16_in is_any) (text16_bytes filled) [] filled _ _ (λ t. text16_back is_any filled t fits.4 refl) refl)))
+    ∙ last (text16_in is_any) (text16_bytes filled) [] filled _ _ (λ t. text16_back is_any filled t fits.2 refl) refl)))
 
-entry_back : (e : DictEntry) → EntryFits e → ReadsBack e (entry_value e) → entry_in (entry_key e) (entry_value e) ≡ Ok e
-entry_back (Table name numbers def) fits clear = kind_back 1 name (entry_value (Table name numbers def)) (omega arith) _ (λ whole. table_back name numbers def fits clear)
-entry_back (Index number family) fits clear = kind_back 2 (big_bytes 4 number) (big_bytes 4 family) (omega arith) _ (λ whole. two_numbers 4 4 (length (big_bytes 4 family)) number family (λ a b. Index a b) (omega (arith, fits.0)) (omega (arith, fits.1)))
-entry_back (Family family name) fits clear = kind_back 3 (big_bytes 4 family) name (omega arith) _ (λ whole.
-    ap (λ (r : Result ℕ ℕ). r >>= (λ family. cond (is_family_name name) (Ok (Family family name)) (Err (length name)))) (lone_back 4 (length name) family (omega (arith, fits.0)))
-    ∙ ap (λ (b : Bool). cond b (Ok (Family family name)) (Err (length name))) fits.1)
-entry_back (Dropped number family) fits clear = kind_back 4 (big_bytes 4 number) (big_bytes 4 family) (omega arith) _ (λ whole. two_numbers 4 4 (length (big_bytes 4 family)) number family (λ a b. Dropped a b) (omega (arith, fits.0)) (omega (arith, fits.1)))
-entry_back (Building number table key family filled) fits clear = kind_back 5 (big_bytes 4 number) (entry_value (Building number table key family filled)) (omega arith) _ (λ whole. building_back number table key family filled fits)
-entry_back (Greatest number) fits clear = kind_back 6 [] (big_bytes 4 number) (omega arith) _ (λ whole. ap (λ (r : Result ℕ ℕ). r >>= (λ n. Ok (Greatest n))) (lone_back 4 0 number (omega (arith, fits))))
-entry_back (NextHidden number next) fits clear = kind_back 7 (big_bytes 4 number) (big_bytes 8 next) (omega arith) _ (λ whole. two_numbers 4 8 (length (big_bytes 8 next)) number next (λ a b. NextHidden a b) (omega (arith, fits.0)) (omega (arith, fits.1)))
-entry_back (LastCommit commits moment) fits clear = kind_back 8 [] (big_bytes 8 commits ++ big_bytes 8 moment) (omega arith) _ (λ whole.
-    last (number_in 8) (big_bytes 8 commits) (big_bytes 8 moment) commits (λ c. lone_number_in 8 0 c.1 >>= (λ m. Ok (LastCommit c.0 m))) _ (λ t. number_back 8 commits t (omega (arith, fits.0))) (
-    ap (λ (r : Result ℕ ℕ). r >>= (λ m. Ok (LastCommit commits m))) (lone_back 8 0 moment (omega (arith, fits.1)))))
+entry_back : (e : DictEntry) → EntryFits e → NumbersFit e → ReadsBack e (entry_value e) → entry_in (entry_key e) (entry_value e) ≡ Ok e
+entry_back (Table name numbers def) fits small clear = kind_back 1 name (entry_value (Table name numbers def)) (omega arith) _ (λ whole. table_back name numbers def fits small clear)
+entry_back (Index number family) fits small clear = kind_back 2 (big_bytes 4 number) (big_bytes 4 family) (omega arith) _ (λ whole. two_numbers 4 4 (length (big_bytes 4 family)) number family (λ a b. Index a b) (omega (arith, small.0)) (omega (arith, small.1)))
+entry_back (Family family name) fits small clear = kind_back 3 (big_bytes 4 family) name (omega arith) _ (λ whole.
+    ap (λ (r : Result ℕ ℕ). r >>= (λ family. cond (is_family_name name) (Ok (Family family name)) (Err (length name)))) (lone_back 4 (length name) family (omega (arith, small)))
+    ∙ ap (λ (b : Bool). cond b (Ok (Family family name)) (Err (length name))) fits)
+entry_back (Dropped number family) fits small clear = kind_back 4 (big_bytes 4 number) (big_bytes 4 family) (omega arith) _ (λ whole. two_numbers 4 4 (length (big_bytes 4 family)) number family (λ a b. Dropped a b) (omega (arith, small.0)) (omega (arith, small.1)))
+entry_back (Building number table key family filled) fits small clear = kind_back 5 (big_bytes 4 number) (entry_value (Building number table key family filled)) (omega arith) _ (λ whole. building_back number table key family filled fits small)
+entry_back (Greatest number) fits small clear = kind_back 6 [] (big_bytes 4 number) (omega arith) _ (λ whole. ap (λ (r : Result ℕ ℕ). r >>= (λ n. Ok (Greatest n))) (lone_back 4 0 number (omega (arith, small))))
+entry_back (NextHidden number next) fits small clear = kind_back 7 (big_bytes 4 number) (big_bytes 8 next) (omega arith) _ (λ whole. two_numbers 4 8 (length (big_bytes 8 next)) number next (λ a b. NextHidden a b) (omega (arith, small.0)) (omega (arith, small.1)))
+entry_back (LastCommit commits moment) fits small clear = kind_back 8 [] (big_bytes 8 commits ++ big_bytes 8 moment) (omega arith) _ (λ whole.
+    last (number_in 8) (big_bytes 8 commits) (big_bytes 8 moment) commits (λ c. lone_number_in 8 0 c.1 >>= (λ m. Ok (LastCommit c.0 m))) _ (λ t. number_back 8 commits t (omega (arith, small.0))) (
+    ap (λ (r : Result ℕ ℕ). r >>= (λ m. Ok (LastCommit commits m))) (lone_back 8 0 moment (omega (arith, small.1)))))
 
-pub entry_written : (e : DictEntry) → EntryFits e → ReadsBack e (entry_value e) → reads_entry (entry_key e) (entry_value e) ≡ Ok e
-entry_written e fits clear = ap (placed_in (length (entry_key e) + length (entry_value e))) (entry_back e fits clear)
+pub entry_written : (e : DictEntry) → EntryFits e → NumbersFit e → ReadsBack e (entry_value e) → reads_entry (entry_key e) (entry_value e) ≡ Ok e
+entry_written e fits small clear = ap (placed_in (length (entry_key e) + length (entry_value e))) (entry_back e fits small clear)

@@ -2,3 +2,4 @@ pub mod EntryLaws
 mod TableLaws
 mod Trying
 mod Worked
+mod Smallness

@@ -22,13 +22,14 @@
 //! index number of 2^24 or more.
 
 ghost use Rattle.std.specs.Prelude.{◌≡◌, ◌<◌, ◌^◌, ◌-◌, ◌++◌, length, IfOk, OnOk, Ok, true, Option, Some, None};
+ghost use Rattle.std.specs.List.{AllByRecursion};
 ghost use Rattle.byteorder.specs.Endian.{big_bytes};
 ghost use Rattle.mr_fields.specs.Fields.{name_bytes, listed_bytes};
 ghost use Rattle.mr_spec.specs.RowForm.{text16_bytes};
 ghost use Rattle.mr_schema.specs.DefinitionForm.{key_bytes, definition_bytes};
 ghost use Rattle.mr_schema.specs.DefinitionFitting.{KeyHasPlace, DefinitionHasPlace};
 ghost use Rattle.mr_dict_entry.specs.Entries.{kinded_key, entry_key, entry_value, numbered_in, reads_entry};
-ghost use Rattle.mr_dict_entry.specs.EntryFitting.{EntryFits, EntryHasPlace};
+ghost use Rattle.mr_dict_entry.specs.EntryFitting.{EntryFits, NumbersFit, EntryHasPlace};
 ghost use Rattle.mr_dict_entry.specs.Given.{HasNoFewer, ReadsBack};
 
 use crate::entry::{DictEntry, NumberList};
@@ -154,6 +155,40 @@ fn commit_value(alloc: Global, commits: u64, moment: u64) -> Result<Blob, Memory
     Ok(Blob::from_vec(out))
 }
 
+/// Numbers of a slice are of 32 bits.
+fn are_small(numbers: &[u32])
+    ensures { AllByRecursion (λ number. number < 2 ^ 32) numbers.now }
+{}
+
+/// The numbers of an entry are of their size.
+fn numbers_fit(entry: &DictEntry)
+    ensures { NumbersFit entry.now }
+{
+    match entry {
+        DictEntry::Table { numbers, .. } => {
+            are_small(numbers.as_slice());
+        }
+        DictEntry::Index { number, family } | DictEntry::Dropped { number, family } => {
+            let _numbers = (*number, *family);
+        }
+        DictEntry::Family { family, .. } => {
+            let _number = *family;
+        }
+        DictEntry::Building { number, family, .. } => {
+            let _numbers = (*number, *family);
+        }
+        DictEntry::Greatest(number) => {
+            let _number = *number;
+        }
+        DictEntry::NextHidden { number, next } => {
+            let _numbers = (*number, *next);
+        }
+        DictEntry::LastCommit { commits, moment } => {
+            let _numbers = (*commits, *moment);
+        }
+    }
+}
+
 fn value_of_entry(alloc: Global, entry: &DictEntry) -> Result<Blob, Memory>
     ensures written { IfOk result (λ b. b ≡ entry_value entry.now) }
     ensures place { OnOk result (EntryHasPlace entry.now) }
@@ -182,8 +217,10 @@ fn value_of_entry(alloc: Global, entry: &DictEntry) -> Result<Blob, Memory>
 pub fn write_entry(alloc: Global, entry: &DictEntry) -> Result<(Blob, Blob), Memory>
     ensures written { IfOk result (λ p. (p.0 ≡ entry_key entry.now) × (p.1 ≡ entry_value entry.now)) }
     ensures place { OnOk result (EntryHasPlace entry.now) }
+    ensures numbers { NumbersFit entry.now }
     ensures reads_back { EntryFits entry.now → IfOk result (λ p. reads_entry p.0 p.1 ≡ Ok entry.now) }
 {
+    numbers_fit(entry);
     let key = key_of_entry(alloc, entry)?;
     let value = value_of_entry(alloc, entry)?;
     Ok((key, value))

@@ -8,4 +8,4 @@ pub returns-clause-reads_back : goal.returns-clause-reads_back
 returns-clause-reads_back c = λ fits.
     ap (λ (k : List ℕ). reads_entry k c.in_ok-value.value) c.in_ok-key.ensures
     ∙ ap (λ (v : List ℕ). reads_entry (entry_key c.args.entry.now) v) c.in_ok-value.ensures.written
-    ∙ entry_written c.args.entry.now fits (subst (ReadsBack c.args.entry.now) c.in_ok-value.ensures.written c.in_ok-value.ensures.reads_back)
+    ∙ entry_written c.args.entry.now fits c.numbers_fit.ensures (subst (ReadsBack c.args.entry.now) c.in_ok-value.ensures.written c.in_ok-value.ensures.reads_back)
