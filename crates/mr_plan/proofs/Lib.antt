@@ -1,0 +1,10 @@
+mod Fits
+mod Apart
+mod Folding
+mod Covering
+mod Steps
+mod Said
+mod Standing
+mod Sides
+mod Leaves
+mod Holding

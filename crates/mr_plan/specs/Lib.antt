@@ -1,0 +1,4 @@
+pub mod Columns
+pub mod Tests
+pub mod Keys
+pub mod Choice
