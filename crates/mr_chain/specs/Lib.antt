@@ -1,0 +1,3 @@
+pub mod Chains
+pub mod ByFiles
+pub mod ChainLaws
