@@ -1,0 +1,5 @@
+pub mod Gathering
+pub mod Following
+pub mod Wholes
+pub mod Viewing
+pub mod Sound

@@ -1,0 +1,9 @@
+pub mod Joins
+pub mod Searching
+pub mod Warmth
+pub mod Looking
+pub mod Skipping
+pub mod Filing
+pub mod Filling
+pub mod Finding
+pub mod Placed
