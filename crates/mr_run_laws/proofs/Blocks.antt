@@ -1,5 +1,5 @@
 -- The blocks of a run are read from their bytes, and from nothing else.
-use Rattle.std.proofs.Common.{◌≡◌, ℕ, zero, suc, ◌+◌, ◌*◌, ◌-◌, ◌<◌, ◌≤◌, true, List, [], ◌∷◌, ◌++◌, length, take, drop, refl, sym, ◌∙◌, ap, arith, nat_le, length-drop, Result, Ok, Err}
+use Rattle.std.proofs.Common.{◌≡◌, ℕ, zero, suc, ◌+◌, ◌*◌, ◌-◌, ◌≤◌, true, List, [], ◌∷◌, ◌++◌, length, take, drop, refl, sym, ◌∙◌, ap, arith, nat_le, length-drop, Result, Ok, Err}
 use Rattle.std.specs.List.{AllByRecursion, list_all}
 use Rattle.std.proofs.lemmas.Bool.{leb-true}
 use Rattle.std.proofs.lemmas.List.{drop-drop, length-take-le}
@@ -11,8 +11,9 @@ use Rattle.mr_run_laws.proofs.Numbers.{bytes_behind}
 use Rattle.mr_run_laws.proofs.BlockBytes.{block_only}
 use Rattle.mr_run_file.specs.Format.{first_key, key_bytes, blocks_bytes, indexed_bytes, all_indexed_bytes}
 use Rattle.mr_run_file.specs.Reading.{Indexed, demand, key_demand, counted_from, block_at, versions_at, all_versions_in}
+use Rattle.mr_run_file.specs.Written.{ReadsBack}
 use Rattle.mr_run_file.proofs.Lists.{bound, ok_same}
-use Rattle.mr_run_laws.proofs.Fields.{demanded, bytes_front, key_held, one_bytes, all_bytes, Lie}
+use Rattle.mr_run_laws.proofs.Fields.{demanded, bytes_front, key_held, one_bytes, all_bytes, Lie, IsSmall}
 
 counted : (place : ℕ) (r : Result (List Version) ℕ) (vs : List Version) → counted_from place r ≡ Ok vs → r ≡ Ok vs
 counted place (Ok ws) vs is = is
@@ -48,15 +49,15 @@ take_add (suc m) n (x ∷ xs) = let e : suc m + n ≡ suc (m + n) = omega arith 
 -- the blocks from a place up to the end, as bytes
 pub record AreBlocksOf (file : List ℕ) (end at : ℕ) (bs : List Indexed) (vs : List Version) : Type 0 where
   pub lists : List (List Version)
-  pub each : AllByRecursion (λ (ws : List Version). 0 < length ws) lists
+  pub each : AllByRecursion ReadsBack lists
   pub list : vs ≡ joined lists
   pub index : all_bytes bs ≡ all_indexed_bytes at lists
   pub bytes : take (end - at) (drop at file) ≡ blocks_bytes lists
   pub count : length bs ≡ length lists
   pub upto : at ≤ end
 
-pub blocks_only : (file : List ℕ) (end at : ℕ) (bs : List Indexed) (vs : List Version) → list_all is_byte file ≡ true → end ≤ length file → Lie end at bs → all_versions_in file bs ≡ Ok vs → AreBlocksOf file end at bs vs
-blocks_only file end at [] vs bytes within lie is =
+pub blocks_only : (file : List ℕ) (end at : ℕ) (bs : List Indexed) (vs : List Version) → list_all is_byte file ≡ true → end ≤ length file → Lie end at bs → AllByRecursion IsSmall bs → all_versions_in file bs ≡ Ok vs → AreBlocksOf file end at bs vs
+blocks_only file end at [] vs bytes within lie small is =
     let none : end - at ≡ 0 = omega (arith, lie) in
     record {
       lists = [];
@@ -67,10 +68,10 @@ blocks_only file end at [] vs bytes within lie is =
       count = refl;
       upto = omega (arith, lie);
     }
-blocks_only file end at (b ∷ bs) vs bytes within lie is =
+blocks_only file end at (b ∷ bs) vs bytes within lie small is =
     let one = bound (versions_at file b) _ vs is in
     let others = bound (all_versions_in file bs) _ vs one.next in
-    let more = blocks_only file end (at + b.size) bs others.x bytes within lie.1 others.now in
+    let more = blocks_only file end (at + b.size) bs others.x bytes within lie.1 small.1 others.now in
     let same : one.x ++ others.x ≡ vs = ok_same (Ok (one.x ++ others.x)) (one.x ++ others.x) vs refl others.next in
     let is_block = block_of file b one.x one.now in
     let form : block_at file b ≡ block_bytes one.x = block_only (block_at file b) one.x (bytes_front b.size (drop b.place file) (bytes_behind b.place file bytes)) is_block.read in
@@ -83,7 +84,7 @@ blocks_only file end at (b ∷ bs) vs bytes within lie is =
     let sum : end - at ≡ b.size + (end - (at + b.size)) = omega (arith, more.upto) in
     record {
       lists = one.x ∷ more.lists;
-      each = (omega (arith, is_block.some), more.each);
+      each = (record { some = omega (arith, is_block.some); back = ap block_in (sym form) ∙ is_block.read; size = omega (arith, size, small.0.0); key = omega (arith, ap length is_block.key, small.0.1) }, more.each);
       list = sym same ∙ ap (λ (ws : List Version). one.x ++ ws) more.list;
       index = ap (λ (x : List ℕ). x ++ all_bytes bs) here
           ∙ ap (λ (x : List ℕ). indexed_bytes at one.x ++ x) (more.index ∙ ap (λ (n : ℕ). all_indexed_bytes (at + n) more.lists) size);

@@ -9,8 +9,6 @@ use Rattle.mr_block.specs.Fields.{is_byte, Read}
 use Rattle.mr_block.specs.Block.{entry_bytes, entries_bytes, entry_in, entries_in, entry_then, with_first}
 use Rattle.mr_run_laws.proofs.Entries.{entry_only, ok_same}
 
--- ---- whether it was read
-
 -- ---- one step
 
 step_wrong : (block : List ℕ) (n p : ℕ) (rest : List ℕ) → big_number 4 (drop p block) ≢ length block - length rest → entries_in block (suc n) p rest ≡ Err p

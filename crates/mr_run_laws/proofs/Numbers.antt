@@ -83,3 +83,13 @@ bytes_only n s r e is = elim (tells (nat_lt (length s) n)) [
       let same : (take n s, drop n s) ≡ r = cc in
       subst (λ (p : List ℕ × List ℕ). IsRead s p.0 p.1 × (length p.0 ≡ n)) same (record { whole = sym (take-append-drop n s); rest_bytes = bytes_behind n s e }, omega (arith, Rattle.std.proofs.Common.length-take n s))
 ]
+
+-- a number of so many bytes
+pub number_small : (n : ℕ) (s : List ℕ) (r : ℕ × List ℕ) → list_all is_byte s ≡ true → number_in n s ≡ Ok r → r.0 < 256 ^ n
+number_small n s r e is = elim (tells (nat_lt (length s) n)) [
+  | inl y ↦ let no : Err (length s) ≡ Ok r = sym (ap (λ t. cond t (Err (length s)) (Ok (big_number n s, drop n s))) y) ∙ is in cc
+  | inr f ↦
+      let yes_r : Ok (big_number n s, drop n s) ≡ Ok r = sym (ap (λ t. cond t (Err (length s)) (Ok (big_number n s, drop n s))) f) ∙ is in
+      let same : (big_number n s, drop n s) ≡ r = cc in
+      subst (λ (p : ℕ × List ℕ). p.0 < 256 ^ n) same (big_from-lt 0 n s (each_byte s e))
+]

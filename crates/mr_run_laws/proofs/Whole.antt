@@ -79,7 +79,7 @@ only_written entries file vs bytes is =
     (bytes_front (footer_number 1 file) (drop (footer_number 0 file) file) (bytes_behind (footer_number 0 file) file bytes))
     (counted (footer_at file) (index_in (footer_number 0 file) (footer_number 2 file) (take (footer_number 1 file) (drop (footer_number 0 file) file))) structure.x footer.next) in
     let room : footer_at file + 40 ≡ length file = omega (arith, f.long) in
-    let blocks = blocks_only file (footer_number 0 file) 0 structure.x.blocks all.x bytes (omega (arith, room, f.fits)) index.lie all.now in
+    let blocks = blocks_only file (footer_number 0 file) 0 structure.x.blocks all.x bytes (omega (arith, room, f.fits)) index.lie index.small all.now in
     let zero_less : footer_number 0 file ≡ footer_number 0 file - 0 = omega arith in
     let front : take (footer_number 0 file) file ≡ blocks_bytes blocks.lists = ap (λ (n : ℕ). take n file) zero_less ∙ blocks.bytes in
     let last : structure.x.last ≡ last_key (joined blocks.lists) = sym (key_held structure.x.last (last_key all.x) _ same.x same.now) ∙ ap last_key blocks.list in
@@ -106,6 +106,7 @@ only_written entries file vs bytes is =
       record {
         some = omega (arith, count, f.some);
         each = blocks.each;
+        last = omega (arith, ap length last, index.last);
         list = sym these ∙ blocks.list;
         bytes = sym (take-append-drop (footer_number 0 file) file)
             ∙ ap (λ (x : List ℕ). x ++ drop (footer_number 0 file) file) front
