@@ -3,3 +3,4 @@ mod TableLaws
 mod Trying
 mod Worked
 mod Smallness
+mod SmallNumbers

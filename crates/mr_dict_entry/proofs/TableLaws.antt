@@ -90,7 +90,7 @@ numbered_only name (suc most) keys s e = elim (cases_Bool (nat_lt (length s) 4))
 -- ---- what is written is read
 
 -- one number more in front
-step : (name : List ℕ) (most keys number : ℕ) (t : List ℕ) → number < 2 ^ 32 → numbered_in name (suc most) keys (big_bytes 4 number ++ t) ≡ or_more number (named_def_in name keys t) (numbered_in name most (keys + 1) t)
+pub step : (name : List ℕ) (most keys number : ℕ) (t : List ℕ) → number < 2 ^ 32 → numbered_in name (suc most) keys (big_bytes 4 number ++ t) ≡ or_more number (named_def_in name keys t) (numbered_in name most (keys + 1) t)
 unfolding numbered_in
 step name most keys number t lt =
     ap (λ (b : Bool). cond b (Err None) (or_more (big_number 4 (big_bytes 4 number ++ t)) (named_def_in name keys (drop 4 (big_bytes 4 number ++ t))) (numbered_in name most (keys + 1) (drop 4 (big_bytes 4 number ++ t))))) (is_long 4 number t)

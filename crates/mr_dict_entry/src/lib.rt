@@ -3,11 +3,13 @@
 #![tactic(auto)]
 
 mod entry;
+mod laws;
 mod numbers;
 mod read;
 mod table;
 mod write;
 
 pub use entry::{DictEntry, NumberList};
+pub use laws::small_numbers_read_back;
 pub use read::read_entry;
 pub use write::{key_of_entry, write_entry};
