@@ -12,7 +12,7 @@ mod planning;
 mod points;
 mod tests_of;
 
-pub use laws::{first_columns_are_held, first_tests_are_met};
+pub use laws::{covering_is_reaching, first_columns_are_held, first_tests_are_met};
 pub use mr_ranges::{Range, RangeList};
 pub use outline::Plan;
 pub use planning::plan;
