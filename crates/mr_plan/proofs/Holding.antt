@@ -46,7 +46,7 @@ chosen true x y u v h k = h
 chosen false x y u v h k = k
 
 -- the value of a column that a table has
-field-of : (def : TableDef) (row : Row) (p : ℕ) → IsRowOf def row → (column : ColumnDef) → slice_get def.columns p ≡ Some column → (field : Value) × (slice_get row.fields p ≡ Some field) × FitsColumn column.ty field
+pub field-of : (def : TableDef) (row : Row) (p : ℕ) → IsRowOf def row → (column : ColumnDef) → slice_get def.columns p ≡ Some column → (field : Value) × (slice_get row.fields p ≡ Some field) × FitsColumn column.ty field
 field-of def row p is column here = by (slice_get row.fields p) refl (subst (λ (o : Option ColumnDef). FitsPart o (slice_get row.fields p)) here (row_fits def row (p ∷ []) is).0)
   where
     by : (o : Option Value) → slice_get row.fields p ≡ o → FitsPart (Some column) (slice_get row.fields p) → (field : Value) × (slice_get row.fields p ≡ Some field) × FitsColumn column.ty field

@@ -8,3 +8,5 @@ mod Standing
 mod Sides
 mod Leaves
 mod Holding
+mod OnePoint
+mod FirstTests

@@ -1,10 +1,10 @@
 -- The choice of an index.
-use Rattle.std.specs.Prelude.{ℕ, zero, suc, ◌+◌, ◌*◌, ◌/◌, ◌%◌, ◌^◌, ◌==◌, nat_lt, not, ◌&&◌, ◌||◌, Bool, true, false, if◌then◌else◌, List, [], ◌∷◌, Option, Some, None, is_some}
+use Rattle.std.specs.Prelude.{◌≡◌, ◌<◌, ℕ, zero, suc, ◌+◌, ◌*◌, ◌/◌, ◌%◌, ◌^◌, ◌==◌, nat_lt, not, ◌&&◌, ◌||◌, Bool, true, false, if◌then◌else◌, List, [], ◌∷◌, Option, Some, None, is_some}
 use Rattle.std.specs.List.{list_all}
 use Rattle.mr_types.specs.declared.definition.IndexDef.{IndexDef}
 use Rattle.mr_types.specs.declared.definition.TableDef.{TableDef}
 use Rattle.mr_spec.specs.declared.bound.Bound.{Bound}
-use Rattle.mr_entry.specs.Entry.{entry_places, is_reached}
+use Rattle.mr_entry.specs.Entry.{entry_places, is_reached, IsNeeded}
 use Rattle.mr_plan.specs.Columns.{fixed, narrows}
 
 -- ---- covering
@@ -47,3 +47,8 @@ fixes_all e (p ∷ places) = list_all (λ q. is_some (fixed q e)) (p ∷ places)
 abbrev pub chosen : TableDef → Option Bound → ℕ → Option ℕ → ℕ
 chosen def e needed (Some index) = index
 chosen def e needed None = if fixes_all e def.primary.columns then 0 else best_from def e needed 1 def.secondary 0
+
+-- The entries of the primary key hold each column; of another key each needed column must be in it or in the primary key.
+abbrev pub Covers : TableDef → ℕ → ℕ → Type 0
+Covers def zero needed = Unit {0}
+Covers def (suc i) needed = (p : ℕ) → p < 64 → IsNeeded needed p → is_reached def (suc i) p ≡ true
