@@ -6,6 +6,7 @@ use mr_memcmp::compare_keys;
 use mr_parse::parse_statement;
 use mr_plan::{Plan, Range, plan, point};
 use mr_schema::check;
+use mr_spec::Bound;
 use mr_types::{Expr, Refused, Row, Statement, TableDef, Value};
 use sqlite_items::Items;
 use std::alloc::{AllocError, Global};
@@ -120,6 +121,30 @@ fn forced_of(byte: u8) -> Option<usize> {
     }
 }
 
+/// The condition with the places of columns; None where a text is none.
+fn bound_of(alloc: Global, def: &TableDef, text: &[u8]) -> Result<Option<Bound>, Refused> {
+    if def.columns.len() > 255 {
+        return Ok(None);
+    }
+    match condition(alloc, text)? {
+        None => Ok(None),
+        Some(expr) => Ok(Some(bind(alloc, def, &expr)?)),
+    }
+}
+
+/// What the plan of a condition tells.
+fn told_of(
+    alloc: Global,
+    def: &TableDef,
+    bound: &Bound,
+    forced: u8,
+    needed: u8,
+) -> Result<Items<u8>, Memory> {
+    let needed = (needed % 16) as u64;
+    let plan = plan(alloc, def, Some(bound), needed, forced_of(forced))?;
+    told(alloc, &plan)
+}
+
 /// Whether a condition has this plan.
 fn has_plan(
     alloc: Global,
@@ -129,21 +154,10 @@ fn has_plan(
     needed: u8,
     wanted: &[u8],
 ) -> Result<bool, Refused> {
-    if def.columns.len() > 255 {
-        return Ok(false);
+    match bound_of(alloc, def, text)? {
+        None => Ok(false),
+        Some(bound) => Ok(told_of(alloc, def, &bound, forced, needed)?.as_slice() == wanted),
     }
-    let Some(expr) = condition(alloc, text)? else {
-        return Ok(false);
-    };
-    let bound = bind(alloc, def, &expr)?;
-    let plan = plan(
-        alloc,
-        def,
-        Some(&bound),
-        (needed % 16) as u64,
-        forced_of(forced),
-    )?;
-    Ok(told(alloc, &plan)?.as_slice() == wanted)
 }
 
 fn is_told(alloc: Global, def: &TableDef, line: &[u8]) -> Result<bool, Refused> {
@@ -193,20 +207,23 @@ fn first_number(row: &Row) -> Option<i128> {
     }
 }
 
+fn number_in(alloc: Global, def: &TableDef, bound: &Bound) -> Result<Option<i128>, Memory> {
+    if def.columns.len() > 255 {
+        return Ok(None);
+    }
+    match point(alloc, def, Some(bound))? {
+        None => Ok(None),
+        Some(row) => Ok(first_number(&row)),
+    }
+}
+
 fn number_of(alloc: Global, text: &[u8]) -> Result<Option<i128>, Refused> {
     let Some(def) = table(alloc)? else {
         return Ok(None);
     };
-    if def.columns.len() > 255 {
-        return Ok(None);
-    }
-    let Some(expr) = condition(alloc, text)? else {
-        return Ok(None);
-    };
-    let bound = bind(alloc, &def, &expr)?;
-    match point(alloc, &def, Some(&bound))? {
+    match bound_of(alloc, &def, text)? {
         None => Ok(None),
-        Some(row) => Ok(first_number(&row)),
+        Some(bound) => Ok(number_in(alloc, &def, &bound)?),
     }
 }
 
