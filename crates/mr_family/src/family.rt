@@ -70,6 +70,7 @@ impl Family {
         })
     }
 
+    /// The direction of its keys, which its versions in memory have too.
     pub fn direction(&self) -> Direction
         ensures direction { result ≡ direction_of self.now }
         ensures memtable { self.now.memtable.direction ≡ direction_of self.now }
@@ -150,6 +151,7 @@ impl Family {
         ensures others { (file : ℕ) (bytes : List ℕ) → AllByRecursion (λ live. file ≢ live) (files self.old) → AgreesWith file bytes self.old.cached → AgreesWith file bytes self.new.cached }
         ensures stops { IfErr result (MayStop (HasKeyOffence key.now (looked key.now self.old.levels)) (D.disk disk.old) (D.disk disk.new)) }
     {
+        // Two calls that read nothing tell what the parts know of themselves: their order, and that at most 1,024 blocks are held.
         are_in_order(&self.memtable, &self.levels);
         let _held = self.cache.len();
         let found = match self.levels.find(alloc, disk, &mut self.cache, key, at) {
