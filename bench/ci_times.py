@@ -69,7 +69,7 @@ def measure(root):
             below |= more
             grown = bool(more)
         for pid in below:
-            if pid not in kinds:
+            if not kinds.get(pid):
                 try:
                     kinds[pid] = kind_of(words_of(pid))
                 except OSError:
