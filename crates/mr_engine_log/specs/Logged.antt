@@ -1,12 +1,12 @@
 -- What the records of an engine log leave: the batches that count, in the order of the log, the last prepare while it has no
 -- verdict, the last sequence number used, and whether each number was one above the one before it.
-use Rattle.std.specs.Prelude.{◌≡◌, ◌⊎◌, ℕ, ◌+◌, ◌<◌, ◌^◌, ◌==◌, ◌&&◌, Bool, true, false, nat_lt, if◌then◌else◌, List, [], ◌∷◌, ◌++◌, length, Option, Some, None, is_some, Result, Ok, Err}
+use Rattle.std.specs.Prelude.{ℕ, ◌+◌, ◌==◌, ◌&&◌, Bool, true, false, nat_lt, if◌then◌else◌, List, [], ◌∷◌, ◌++◌, length, Option, Some, None, is_some, Result, Ok, Err}
 use Rattle.mr_wal.specs.declared.operation.Operation.{Operation}
 use Rattle.mr_wal.specs.declared.record.WalBody.{WalBody}
 use Rattle.mr_wal.specs.declared.record.WalBody.TheVariants.{Prepare, Plain, Decided}
 use Rattle.mr_wal.specs.declared.record.WalRecord.{WalRecord}
 use Rattle.mr_wal.specs.Fields.{◌>>=◌}
-use Rattle.mr_wal.specs.EngineLog.{record_bytes, read_record}
+use Rattle.mr_wal.specs.EngineLog.{read_record}
 use Rattle.mr_gate.specs.Log.{records_from, end_from, is_damaged_from}
 use Rattle.mr_engine_log.specs.declared.batched.Batched.{Batched}
 use Rattle.mr_engine_log.specs.declared.batched.Counted.{Counted}
@@ -73,34 +73,6 @@ replay at l (body ∷ bodies) = step at l body >>= (λ next. replay (at + (5 + l
 -- what the bytes of an engine log leave; damage of the log itself comes first
 abbrev pub log_of : ℕ → List ℕ → Result Logged ℕ
 log_of last file = if is_damaged_from 0 file then Err (end_from 0 file) else replay 0 (none_logged last) (records_from 0 file)
-
--- ---- one record more
-
--- the record has the verdict that is due
-abbrev pub IsDue : WalRecord → Logged → Type 0
-IsDue r l = is_wrong_verdict l.pending (record_bytes r) ≡ false
-
--- where the record was due the log has it now, and before or now
-abbrev pub HasRecord : WalRecord → List ℕ → List ℕ → Type 0
-HasRecord r old new = (last : ℕ) (l : Logged) → log_of last old ≡ Ok l → IsDue r l → log_of last new ≡ Ok (applied r l)
-
-abbrev pub MayHaveRecord : WalRecord → List ℕ → List ℕ → Type 0
-MayHaveRecord r old file = (last : ℕ) (l : Logged) → log_of last old ≡ Ok l → IsDue r l → (log_of last file ≡ Ok l) ⊎ (log_of last file ≡ Ok (applied r l))
-
--- what the log left it leaves still
-abbrev pub KeepsLogged : List ℕ → List ℕ → Type 0
-KeepsLogged old file = (last : ℕ) (l : Logged) → log_of last old ≡ Ok l → log_of last file ≡ Ok l
-
--- ---- a record that keeps the rules on verdicts and sequence numbers
-
-abbrev pub KeepsNumbers : WalBody → Type 0
-KeepsNumbers (Prepare commit sequence operations) = sequence < 2 ^ 63
-KeepsNumbers (Plain sequence operations) = sequence < 2 ^ 63
-KeepsNumbers Decided = Unit {0}
-
-pub record KeepsRules (r : WalRecord) : Type 0 where
-  pub verdict : r.verdict < 3
-  pub numbers : KeepsNumbers r.body
 
 -- ---- one record after the other
 

@@ -7,4 +7,4 @@ mod reader;
 mod turn;
 
 pub use batched::{Batched, Counted, Prepared};
-pub use reader::LogReader;
+pub use reader::{Left, LogReader};

@@ -1,5 +1,5 @@
 //! Reading an engine log.
-ghost use Rattle.std.specs.Prelude.{◌≡◌, ◌≤◌, ◌<◌, ◌+◌, ◌*◌, ◌^◌, ◌⊎◌, ℕ, List, [], length, true, false, IfOk, IfErr, IfSome, OnOk, Ok, Err};
+ghost use Rattle.std.specs.Prelude.{◌≡◌, ◌≤◌, ◌<◌, ◌+◌, ◌*◌, ◌^◌, ◌⊎◌, ℕ, List, [], length, true, false, IfOk, IfErr, IfSome, OnOk, Ok, Err, None};
 ghost use Rattle.mr_base.specs.Disk.{Tells, file_of, HasRisen};
 ghost use Rattle.mr_base.specs.Calls.{Same, Counts, Rises};
 ghost use Rattle.mr_gate.specs.Log.{end_from, is_damaged_from};
@@ -8,7 +8,7 @@ ghost use Rattle.mr_gate.specs.Walking.{Walks, IsPaid, paid};
 ghost use Rattle.mr_engine_log.specs.Reading.{IsReading, IsTurn, IsReadStop};
 ghost use Rattle.mr_engine_log.specs.declared.batched.Batched.{Batched};
 
-use crate::batched::Counted;
+use crate::batched::{Counted, Prepared};
 use crate::turn::{SoFar, take_record};
 use mr_base::{Disk, Stop};
 use mr_gate::LogWalk;
@@ -22,6 +22,16 @@ pub struct LogReader {
     pub(crate) base: u64,
     pub(crate) walk: LogWalk,
     pub(crate) so_far: SoFar,
+}
+
+/// What records leave beside the batches that count: the prepare that has no verdict, the last sequence number used, whether each was one
+/// above the one before it, and the place behind the records.
+#[derive(Drop)]
+pub struct Left {
+    pub pending: Option<Prepared>,
+    pub last: u64,
+    pub in_turn: bool,
+    pub end: u64,
 }
 
 impl Model for LogReader {
@@ -67,6 +77,7 @@ impl LogReader {
         ensures answers { IfErr result (λ e. (e ≡ Stop.Disk) ⊎ (e ≡ Stop.Memory)) }
         ensures same { Tells (D.disk disk.old) → Same (D.disk disk.old) (D.disk disk.new) }
         ensures begun { IfOk result (λ r. (r.walk.file ≡ file) × (r.base ≡ base) × (r.walk.place ≡ 0) × (r.walk.window.start ≡ 0)) }
+        ensures none_yet { IfOk result (λ r. (r.pending ≡ None) × (r.last ≡ base) × (r.in_turn ≡ true)) }
         ensures walks { Tells (D.disk disk.old) → IfOk result (λ r. Walks r.walk (file_of (D.disk disk.old) file).bytes) }
         ensures reading { Tells (D.disk disk.old) → IfOk result (λ r. IsReading r [] (file_of (D.disk disk.old) file).bytes) }
     {
@@ -83,7 +94,23 @@ impl LogReader {
         })
     }
 
-    /// What the next record makes count, None at the end of the records. The first offence is told: damage of the log itself, wherever
+    /// What the records so far leave beside the batches that count.
+    pub fn finish(self) -> Left
+        ensures pending { result.pending ≡ self.pending }
+        ensures last { result.last ≡ self.last }
+        ensures in_turn { result.in_turn ≡ self.in_turn }
+        ensures end { result.end ≡ self.walk.place }
+    {
+        let end = self.walk.place();
+        Left {
+            pending: self.so_far.pending,
+            last: self.so_far.last,
+            in_turn: self.so_far.in_turn,
+            end,
+        }
+    }
+
+    /// What the next record makes count, None at the end of the records. Whether the sequence numbers are in turn isn't judged here. The first offence is told: damage of the log itself, wherever
     /// it is, before that of a body. Takes memory. After an `Err` the log is to be read again.
     pub fn next<D: Disk>(&mut self, alloc: Global, disk: &mut D) -> Result<Option<Counted>, Stop>
         requires walks { Tells (D.disk disk.old) → Walks self.old.walk (file_of (D.disk disk.old) self.old.walk.file).bytes }
