@@ -3,7 +3,7 @@ use Rattle.std.proofs.Common.{◌≡◌, ℕ, Bool, true, false, List, [], ◌�
 use Rattle.std.specs.Prelude.{not, ◌&&◌, ◌||◌, if◌then◌else◌}
 use Rattle.mr_ranges.specs.declared.range.Range.{Range}
 use Rattle.mr_ranges.specs.Ranges.{precedes, is_from, is_under, is_in, in_some, AreBehind, AreApart, between, later, ends_first, sooner, common}
-use Rattle.mr_ranges.proofs.Order.{from_from, not_both, turned, turned_back, under_behind, under_before, under_from, under_first, under_second}
+use Rattle.mr_ranges.proofs.Order.{from_before, from_from, not_both, turned, turned_back, under_behind, under_before, under_from, under_first, under_second}
 
 pub none_of : (b : Bool) → (b ≡ true → true ≡ false) → b ≡ false
 none_of false h = refl
@@ -106,7 +106,16 @@ behind_first None (Some b) (range ∷ ranges) h r = absurd (no h)
   where
     no : false ≡ true → ⊥
     no e = cc
-behind_first (Some a) (Some b) (range ∷ ranges) h r = (turned_back (precedes range.low a) (from_from a b range.low (turned (precedes b a) h) (turned (precedes range.low b) r.0)), r.1, r.2)
+behind_first (Some a) (Some b) (range ∷ ranges) h r = (from_before a b range.low (turned (precedes b a) h) r.0, r.1, r.2)
+
+-- ranges in order and apart, the first of which begins at or behind a key
+abbrev pub AreFrom : List ℕ → List Range → Type 0
+AreFrom low [] = Unit {0}
+AreFrom low (range ∷ ranges) = (is_from low range.low ≡ true) × (is_under range.high range.low ≡ true) × AreBehind range.high ranges
+
+pub from_apart : (low : List ℕ) (ranges : List Range) → AreFrom low ranges → AreApart ranges
+from_apart low [] h = tt
+from_apart low (range ∷ ranges) h = (h.1, h.2)
 
 pub behind_apart : (end : Option (List ℕ)) (ranges : List Range) → AreBehind end ranges → AreApart ranges
 behind_apart end [] h = tt

@@ -5,13 +5,13 @@ use Rattle.std.proofs.lemmas.List.Folds.{list_any-append}
 use Rattle.mr_ranges.specs.declared.range.Range.{Range}
 use Rattle.mr_ranges.specs.Ranges.{precedes, is_from, is_under, is_in, in_some, is_behind, AreBehind, AreApart, between, later, ends_first, sooner, common}
 use Rattle.mr_ranges.proofs.Order.{not_both, itself, turned, turned_back, under_behind, behind_from}
-use Rattle.mr_ranges.proofs.Common.{right_of, in_common, not_behind, behind_first, behind_apart}
+use Rattle.mr_ranges.proofs.Common.{right_of, in_common, not_behind, behind_first, behind_apart, AreFrom, from_apart}
 
 -- ranges that may still follow, where these are left of both lists
 abbrev pub FromBoth : List Range → List Range → List Range → Type 0
 FromBoth [] ys rest = rest ≡ []
 FromBoth (x ∷ xs) [] rest = rest ≡ []
-FromBoth (x ∷ xs) (y ∷ ys) rest = AreBehind (Some x.low) rest × AreBehind (Some y.low) rest
+FromBoth (x ∷ xs) (y ∷ ys) rest = AreFrom x.low rest × AreFrom y.low rest
 
 -- what is found so far, where these are left
 pub record IsMet (first second left right out : List Range) : Type 0 where
@@ -23,10 +23,13 @@ pub record IsMet (first second left right out : List Range) : Type 0 where
 nothing : (end : Option (List ℕ)) (rest : List Range) → rest ≡ [] → AreBehind end rest
 nothing end rest e = subst (λ (l : List Range). AreBehind end l) (sym e) tt
 
+nothing_from : (low : List ℕ) (rest : List Range) → rest ≡ [] → AreFrom low rest
+nothing_from low rest e = subst (AreFrom low) (sym e) tt
+
 start_order : (left right rest : List Range) → FromBoth left right rest → AreApart rest
 start_order [] ys rest h = subst AreApart (sym h) tt
 start_order (x ∷ xs) [] rest h = subst AreApart (sym h) tt
-start_order (x ∷ xs) (y ∷ ys) rest h = behind_apart (Some x.low) rest h.0
+start_order (x ∷ xs) (y ∷ ys) rest h = from_apart x.low rest h.0
 
 pub met_start : (first second : List Range) → AreApart first → AreApart second → IsMet first second first second []
 met_start first second p q = record {
@@ -50,18 +53,18 @@ later_right a b = by (precedes a b) refl
     by true e = turned_back (precedes b b) (itself b)
     by false e = turned_back (precedes a b) e
 
-pub behind_low : (end : Option (List ℕ)) (low : List ℕ) (rest : List Range) → is_behind end low ≡ true → AreBehind (Some low) rest → AreBehind end rest
+pub behind_low : (end : Option (List ℕ)) (low : List ℕ) (rest : List Range) → is_behind end low ≡ true → AreFrom low rest → AreBehind end rest
 behind_low end low [] h r = tt
 behind_low end low (range ∷ rest) h r = (behind_from end low range.low h (turned (precedes range.low low) r.0), r.1, r.2)
 
-low_behind : (end : Option (List ℕ)) (low : List ℕ) (rest : List Range) → is_under end low ≡ true → AreBehind end rest → AreBehind (Some low) rest
+low_behind : (end : Option (List ℕ)) (low : List ℕ) (rest : List Range) → is_under end low ≡ true → AreBehind end rest → AreFrom low rest
 low_behind end low [] h r = tt
 low_behind end low (range ∷ rest) h r = (turned_back (precedes range.low low) (not_both low range.low (under_behind end range.low low r.0 h)), r.1, r.2)
 
-pub pushed : (low lo : List ℕ) (hi : Option (List ℕ)) (rest : List Range) → is_from low lo ≡ true → AreBehind (Some low) rest → AreBehind hi rest → AreBehind (Some low) (between lo hi ++ rest)
+pub pushed : (low lo : List ℕ) (hi : Option (List ℕ)) (rest : List Range) → is_from low lo ≡ true → AreFrom low rest → AreBehind hi rest → AreFrom low (between lo hi ++ rest)
 pushed low lo hi rest h r s = by (is_under hi lo) refl
   where
-    by : (t : Bool) → is_under hi lo ≡ t → AreBehind (Some low) ((if t then record { low = lo; high = hi } ∷ [] else []) ++ rest)
+    by : (t : Bool) → is_under hi lo ≡ t → AreFrom low ((if t then record { low = lo; high = hi } ∷ [] else []) ++ rest)
     by true e = (h, e, s)
     by false e = r
 
@@ -73,15 +76,15 @@ sooner_second a b h = sym (ap (λ (t : Bool). if t then a else b) h)
 
 -- ---- the order of what follows
 
-behind_left : (x y : Range) (xs ys rest : List Range) → AreApart (x ∷ xs) → FromBoth xs (y ∷ ys) rest → AreBehind x.high rest × AreBehind (Some y.low) rest
-behind_left x y [] ys rest p h = (nothing x.high rest h, nothing (Some y.low) rest h)
+behind_left : (x y : Range) (xs ys rest : List Range) → AreApart (x ∷ xs) → FromBoth xs (y ∷ ys) rest → AreBehind x.high rest × AreFrom y.low rest
+behind_left x y [] ys rest p h = (nothing x.high rest h, nothing_from y.low rest h)
 behind_left x y (z ∷ xs) ys rest p h = (behind_low x.high z.low rest p.1.0 h.0, h.1)
 
-behind_right : (x y : Range) (xs ys rest : List Range) → AreApart (y ∷ ys) → FromBoth (x ∷ xs) ys rest → AreBehind y.high rest × AreBehind (Some x.low) rest
-behind_right x y xs [] rest p h = (nothing y.high rest h, nothing (Some x.low) rest h)
+behind_right : (x y : Range) (xs ys rest : List Range) → AreApart (y ∷ ys) → FromBoth (x ∷ xs) ys rest → AreBehind y.high rest × AreFrom x.low rest
+behind_right x y xs [] rest p h = (nothing y.high rest h, nothing_from x.low rest h)
 behind_right x y xs (z ∷ ys) rest p h = (behind_low y.high z.low rest p.1.0 h.1, h.0)
 
-follow : (x y : Range) (xs ys rest : List Range) → AreBehind (Some x.low) rest → AreBehind (Some y.low) rest → AreBehind (sooner x.high y.high) rest → FromBoth (x ∷ xs) (y ∷ ys) (common x y ++ rest)
+follow : (x y : Range) (xs ys rest : List Range) → AreFrom x.low rest → AreFrom y.low rest → AreBehind (sooner x.high y.high) rest → FromBoth (x ∷ xs) (y ∷ ys) (common x y ++ rest)
 follow x y xs ys rest p q r =
     (pushed x.low (later x.low y.low) (sooner x.high y.high) rest (later_left x.low y.low) p r, pushed y.low (later x.low y.low) (sooner x.high y.high) rest (later_right x.low y.low) q r)
 

@@ -91,7 +91,7 @@ turned_back b h = ap not h
 -- a key below an end is below each key behind it
 pub under_behind : (end : Option (List ℕ)) (low key : List ℕ) → is_behind end low ≡ true → is_under end key ≡ true → precedes key low ≡ true
 under_behind None low key h k = cc
-under_behind (Some high) low key h k = before_from key high low k (turned (precedes low high) h)
+under_behind (Some high) low key h k = before_before key high low k h
 
 -- a key before one that is below an end
 pub under_before : (end : Option (List ℕ)) (a b : List ℕ) → precedes a b ≡ true → is_under end b ≡ true → is_under end a ≡ true
@@ -121,4 +121,4 @@ under_second (Some a) (Some b) key h k = before_before key b a k (kept (precedes
 -- a key behind an end, and one at or behind that
 pub behind_from : (end : Option (List ℕ)) (a b : List ℕ) → is_behind end a ≡ true → precedes b a ≡ false → is_behind end b ≡ true
 behind_from None a b h k = cc
-behind_from (Some high) a b h k = turned_back (precedes b high) (from_from high a b (turned (precedes a high) h) k)
+behind_from (Some high) a b h k = before_from high a b h k

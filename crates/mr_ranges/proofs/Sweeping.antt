@@ -15,9 +15,9 @@ use lib.ListN.{get_or}
 use native.Mathlib.Numerals.{unary_clauses}
 use Rattle.mr_pieces.specs.Order.{bytes_cmp}
 use Rattle.mr_ranges.specs.declared.range.Range.{Range}
-use Rattle.mr_ranges.specs.Ranges.{precedes, is_from, is_under, is_in, in_some, is_behind, AreBehind, AreApart, between, ends_first, reaches, farther, Rising, AreRising}
-use Rattle.mr_ranges.proofs.Order.{from_from, not_both, itself, turned, turned_back, under_first, under_second}
-use Rattle.mr_ranges.proofs.Common.{alike, in_between}
+use Rattle.mr_ranges.specs.Ranges.{precedes, is_from, is_under, is_in, in_some, is_behind, AreApart, between, ends_first, reaches, farther, Rising, AreRising}
+use Rattle.mr_ranges.proofs.Order.{from_from, itself, turned, turned_back, under_first, under_second}
+use Rattle.mr_ranges.proofs.Common.{alike, in_between, AreFrom}
 use Rattle.mr_ranges.proofs.Crossing.{pushed, behind_low, only}
 
 -- ---- sorted
@@ -66,10 +66,10 @@ all-moved key out left all e h = sym (only (in_some key out)) ∙ ap (λ (l : Li
 
 pub record IsJoined (all left out : List Range) (low : List ℕ) (high : Option (List ℕ)) : Type 0 where
   pub rising : Rising low left
-  pub order : (rest : List Range) → AreBehind (Some low) rest → AreApart (out ++ rest)
+  pub order : (rest : List Range) → AreFrom low rest → AreApart (out ++ rest)
   pub same : (key : List ℕ) → (in_some key out || ((is_from low key && is_under high key) || in_some key left)) ≡ in_some key all
 
-apart-behind : (low : List ℕ) (rest : List Range) → AreBehind (Some low) rest → AreApart rest
+apart-behind : (low : List ℕ) (rest : List Range) → AreFrom low rest → AreApart rest
 apart-behind low [] h = tt
 apart-behind low (range ∷ rest) h = (h.1, h.2)
 
@@ -132,17 +132,21 @@ joined-more all left out low high farthest x xs j e r is =
 
 apart-of : (high : Option (List ℕ)) (low : List ℕ) → reaches high low ≡ false → is_behind high low ≡ true
 apart-of None low h = cc
-apart-of (Some high) low h = turned_back (precedes low high) (not_both high low (was (precedes high low) h))
+apart-of (Some high) low h = was (precedes high low) h
   where
     was : (t : Bool) → not t ≡ false → t ≡ true
     was true e = refl
     was false e = cc
 
+from_low : (low other : List ℕ) (rest : List Range) → is_from low other ≡ true → AreFrom other rest → AreFrom low rest
+from_low low other [] h r = tt
+from_low low other (range ∷ rest) h r = (later-from low other range.low h r.0, r.1, r.2)
+
 pub joined-next : (all left out more : List Range) (low : List ℕ) (high : Option (List ℕ)) (x : Range) (xs : List Range) → IsJoined all left out low high → left ≡ x ∷ xs → reaches high x.low ≡ false → more ≡ out ++ between low high → IsJoined all xs more x.low x.high
 joined-next all left out more low high x xs j e r is =
     let rising : Rising low (x ∷ xs) = subst (Rising low) e j.rising in
-    let order : (rest : List Range) → AreBehind (Some x.low) rest → AreApart ((out ++ between low high) ++ rest) = λ rest h.
-    subst AreApart (sym (append_assoc out (between low high) rest)) (j.order (between low high ++ rest) (pushed low low high rest (turned_back (precedes low low) (itself low)) (behind_low (Some low) x.low rest rising.0 h) (behind_low high x.low rest (apart-of high x.low r) h))) in
+    let order : (rest : List Range) → AreFrom x.low rest → AreApart ((out ++ between low high) ++ rest) = λ rest h.
+    subst AreApart (sym (append_assoc out (between low high) rest)) (j.order (between low high ++ rest) (pushed low low high rest (turned_back (precedes low low) (itself low)) (from_low low x.low rest rising.0 h) (behind_low high x.low rest (apart-of high x.low r) h))) in
     let same : (key : List ℕ) → (in_some key (out ++ between low high) || (is_in key x || in_some key xs)) ≡ in_some key all = λ key.
     ap (λ (b : Bool). b || (is_in key x || in_some key xs)) (list_any-append (is_in key) out (between low high) ∙ ap (λ (b : Bool). in_some key out || b) (in_between low high key))
     ∙ or-more (in_some key out) (is_from low key && is_under high key) (is_in key x || in_some key xs)
@@ -153,7 +157,7 @@ joined-next all left out more low high x xs j e r is =
 
 pub joined-apart : (all left out more : List Range) (low : List ℕ) (high : Option (List ℕ)) → IsJoined all left out low high → more ≡ out ++ between low high → AreApart more
 joined-apart all left out more low high j is =
-    subst AreApart (sym is) (j.order (between low high) (subst (AreBehind (Some low)) (append-nil (between low high)) (pushed low low high [] (turned_back (precedes low low) (itself low)) tt tt)))
+    subst AreApart (sym is) (j.order (between low high) (subst (AreFrom low) (append-nil (between low high)) (pushed low low high [] (turned_back (precedes low low) (itself low)) tt tt)))
 
 empty : (ranges : List Range) → length ranges ≡ 0 → ranges ≡ []
 empty [] e = refl

@@ -29,17 +29,17 @@ in_some key ranges = list_any (is_in key) ranges
 
 -- ---- ranges in order
 
--- a key at or behind an end; none is where there is no end
+-- a key behind an end; none is where there is no end
 abbrev pub is_behind : Option (List ℕ) → List ℕ → Bool
 is_behind None key = false
-is_behind (Some high) key = is_from high key
+is_behind (Some high) key = precedes high key
 
--- ranges behind an end in ascending order, none empty and no two with a key in common
+-- ranges behind an end in ascending order, none empty and each behind the one before it without touching it
 abbrev pub AreBehind : Option (List ℕ) → List Range → Type 0
 AreBehind end [] = Unit {0}
 AreBehind end (range ∷ ranges) = (is_behind end range.low ≡ true) × (is_under range.high range.low ≡ true) × AreBehind range.high ranges
 
--- ranges in ascending order, none empty and no two with a key in common
+-- ranges in ascending order, none empty and each behind the one before it without touching it
 abbrev pub AreApart : List Range → Type 0
 AreApart [] = Unit {0}
 AreApart (range ∷ ranges) = (is_under range.high range.low ≡ true) × AreBehind range.high ranges
