@@ -3,3 +3,4 @@ pub mod Following
 pub mod Wholes
 pub mod Viewing
 pub mod Sound
+pub mod Flushes

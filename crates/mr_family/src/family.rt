@@ -1,5 +1,5 @@
 //! A family of keys.
-ghost use Rattle.std.specs.Prelude.{◌≡◌, ◌<◌, ◌≤◌, ◌+◌, ◌≢◌, ℕ, List, [], length, unwrap_or, IfOk, IfErr, OnOk, OnErr};
+ghost use Rattle.std.specs.Prelude.{◌≡◌, ◌<◌, ◌≤◌, ◌+◌, ◌≢◌, ℕ, List, [], length, unwrap_or, None, Ok, IfOk, IfErr, OnOk, OnErr};
 ghost use Rattle.std.specs.Option.{option_map};
 ghost use Rattle.std.specs.List.{AllByRecursion};
 ghost use Rattle.mr_base.specs.Disk.{Tells, Image, seen};
@@ -17,6 +17,8 @@ ghost use Rattle.mr_levels.specs.Looks.{looked, Brings, HasKeyOffence, AreSorted
 ghost use Rattle.mr_levels.specs.Spans.{spans_of_levels};
 ghost use Rattle.mr_family.specs.Family.{direction as direction_of, files, versions as versions_of, IsWhole, IsTrueTo, reads_of, bytes_of, IsWarmFor};
 ghost use Rattle.mr_family.specs.Parts.{cursor_at, IsViewAt};
+ghost use Rattle.mr_compact.specs.Merges.{AreBefore};
+ghost use Rattle.mr_flush.specs.Flushed.{IsFlush, Flushes, FlushStops};
 
 use crate::memory::{are_in_order, later_in_memory};
 use crate::parts::{Part, part_cursors};
@@ -24,6 +26,7 @@ use mr_base::{Direction, Disk, Memory, Stop};
 use mr_block::Found;
 use mr_block_cache::BlockCache;
 use mr_compact::SpanList;
+use mr_flush::flush;
 use mr_iter::{AtSnapshot, Listed, Merge, RunInfo, place_in_first_child};
 use mr_levels::Levels;
 use mr_memtable::Memtable;
@@ -173,6 +176,31 @@ impl Family {
         let parts = part_cursors(alloc, &self.memtable, &self.levels)?;
         let merge = Merge::new(parts, direction)?;
         Ok(AtSnapshot::new(alloc, merge, at))
+    }
+
+    /// Writes all versions in memory as one run into a file, opens it and adds it to the newest runs; then none is left in memory, nor
+    /// room for any. Where there are none it answers None, and neither memory nor the disk is touched. The file's number is to be above
+    /// those of all runs. What is held of the runs stays. Takes memory; after an error the family is as before, and the file may have
+    /// any bytes.
+    pub fn flush_unit<D: Disk>(
+        &mut self,
+        alloc: Global,
+        disk: &mut D,
+        file: u64,
+    ) -> Result<Option<RunInfo>, Stop>
+        ensures flush { IfOk result (IsFlush file (D.disk disk.old) (D.disk disk.new) self.old.memtable self.new.memtable self.old.levels self.new.levels) }
+        ensures empty { self.old.memtable.versions ≡ [] → result ≡ Ok None }
+        ensures untouched { self.old.memtable.versions ≡ [] → D.disk disk.new ≡ D.disk disk.old }
+        ensures same { self.old.memtable.versions ≡ [] → self.new ≡ self.old }
+        ensures unchanged { OnErr result (self.new ≡ self.old) }
+        ensures cached { self.new.cached ≡ self.old.cached }
+        ensures flushes { Flushes file (D.disk disk.old) (D.disk disk.new) }
+        ensures stops { IfErr result (FlushStops file (D.disk disk.old) (D.disk disk.new)) }
+        ensures versions { Tells (D.disk disk.old) → AreBefore file (files self.old) → versions_of self.new (seen (D.disk disk.new)) ≡ versions_of self.old (seen (D.disk disk.old)) }
+        ensures whole { Tells (D.disk disk.old) → AreBefore file (files self.old) → IsWhole self.old (seen (D.disk disk.old)) → IsWhole self.new (seen (D.disk disk.new)) }
+        ensures held { Tells (D.disk disk.old) → AreBefore file (files self.old) → ((bytes : List ℕ) → AgreesWith file bytes self.old.cached) → IsTrueTo (seen (D.disk disk.old)) self.old → IsTrueTo (seen (D.disk disk.new)) self.new }
+    {
+        flush(alloc, disk, &mut self.memtable, &mut self.levels, file)
     }
 
     /// The live runs with their levels, files and first and last keys: the newest ones first, then level by level. Takes memory.

@@ -1,7 +1,7 @@
 -- A key with a smaller front is smaller.
-use Rattle.std.proofs.Common.{◌≡◌, ◌≢◌, ℕ, None, get_or, ◌+◌, ◌*◌, ◌-◌, ◌<◌, ◌≤◌, List, [], ◌∷◌, length, take, drop, suc, zero, refl, sym, ◌∙◌, ap, subst, inl, inr, arith}
+use Rattle.std.proofs.Common.{◌≡◌, ◌≢◌, ℕ, None, get_or, ◌+◌, ◌*◌, ◌<◌, ◌≤◌, List, [], ◌∷◌, length, take, drop, suc, zero, refl, sym, ◌∙◌, ap, subst, inl, inr, arith}
 use Rattle.std.specs.Prelude.{slice_index}
-use Rattle.std.specs.List.{AllByRecursion, insert}
+use Rattle.std.specs.List.{insert}
 use Rattle.std.specs.declared.cmp.Ordering.{Ordering}
 use Rattle.std.specs.declared.cmp.Ordering.TheVariants.{Less, Equal, Greater}
 use Rattle.std.specs.Ordering.{nat_cmp, is_gt, ordering_then, ordering_reverse}
@@ -13,29 +13,13 @@ use Rattle.mr_base.specs.declared.stop.Direction.TheVariants.{Forward, Reverse}
 use Rattle.mr_iter.specs.Versions.{key_cmp}
 use Rattle.mr_iter.specs.Order.{key_total}
 use Rattle.mr_iter.specs.Versions.{as_version}
+use Rattle.mr_memtable.specs.declared.piece.Piece.{Piece}
 use Rattle.mr_memtable.specs.declared.slot.Slot.{Slot}
-use Rattle.mr_memtable.specs.Slots.{part, front_of, front_cmp, Fits, IsFirst, fronts_of, goes_before, no_slot}
-
--- each is a byte
-abbrev pub AreBytes : List ℕ → Type 0
-AreBytes xs = AllByRecursion (λ b. b < 256) xs
+use Rattle.mr_memtable.specs.Slots.{part, text_in, AreBytes, front_of, front_cmp, Fits, IsFirst, fronts_of, goes_before, no_slot}
 
 pub all_bytes : (xs : List ℕ) → ((i : ℕ) → slice_index xs i < 256) → AreBytes xs
 all_bytes [] each = tt
 all_bytes (x ∷ xs) each = (each 0, all_bytes xs (λ i. each (suc i)))
-
-bytes-take : (n : ℕ) (xs : List ℕ) → AreBytes xs → AreBytes (take n xs)
-bytes-take zero xs all = tt
-bytes-take (suc n) [] all = tt
-bytes-take (suc n) (x ∷ xs) all = (all.0, bytes-take n xs all.1)
-
-bytes-drop : (n : ℕ) (xs : List ℕ) → AreBytes xs → AreBytes (drop n xs)
-bytes-drop zero xs all = all
-bytes-drop (suc n) [] all = tt
-bytes-drop (suc n) (x ∷ xs) all = bytes-drop n xs all.1
-
-pub bytes-part : (xs : List ℕ) (from to : ℕ) → AreBytes xs → AreBytes (part xs from to)
-bytes-part xs from to all = bytes-take (to - from) (drop from xs) (bytes-drop from xs all)
 
 -- the number of n more bytes behind those of a number
 abbrev fronted : ℕ → ℕ → List ℕ → ℕ
@@ -143,10 +127,10 @@ module _ (a b : List ℕ) (all_a : AreBytes a) (all_b : AreBytes b) (differ : fr
       ]
 
 -- and of a key and a slot
-pub by_front : (d : Direction) (bytes key : List ℕ) (sequence : ℕ) (s : Slot) → ((i : ℕ) → slice_index bytes i < 256) → ((i : ℕ) → slice_index key i < 256) → Fits bytes s → front_of key ≢ s.front → is_gt (front_cmp d (front_of key) s.front) ≡ goes_before d bytes (as_version key sequence None) s
-by_front d bytes key sequence s all_bytes_below all_key_below fits differ =
-    ap (λ (m : ℕ). is_gt (front_cmp d (front_of key) m)) fits.front
-    ∙ sym (decided key (part bytes s.start s.middle) (all_bytes key all_key_below) (bytes-part bytes s.start s.middle (all_bytes bytes all_bytes_below)) (λ same. differ (same ∙ sym fits.front)) d (nat_cmp s.sequence sequence))
+pub by_front : (d : Direction) (pieces : List Piece) (key : List ℕ) (sequence : ℕ) (s : Slot) → ((i : ℕ) → slice_index key i < 256) → Fits pieces s → front_of key ≢ s.front → is_gt (front_cmp d (front_of key) s.front) ≡ goes_before d pieces (as_version key sequence None) s
+by_front d pieces key sequence s all_key_below fits differ =
+    ap (λ (m : ℕ). is_gt (front_cmp d (front_of key) m)) fits.places.front
+    ∙ sym (decided key (part (text_in pieces s.piece) s.start s.middle) (all_bytes key all_key_below) fits.bytes (λ same. differ (same ∙ sym fits.places.front)) d (nat_cmp s.sequence sequence))
 
 -- the front at a place is that of the slot there
 pub front_at : (fronts : List ℕ) (ss : List Slot) (at front : ℕ) → fronts ≡ fronts_of ss → at < length ss → front ≡ get_or fronts at front → front ≡ (get_or ss at no_slot).front

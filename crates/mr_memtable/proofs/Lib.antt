@@ -1,4 +1,5 @@
 mod ChunkLaws
+mod Pieces
 mod Filling
 mod Places
 mod Fronts

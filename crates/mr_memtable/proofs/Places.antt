@@ -7,6 +7,7 @@ use Rattle.std.proofs.lemmas.List.{get_or-append-add}
 use Rattle.std.proofs.Math.ListN.{get_or-append}
 use Rattle.mr_base.specs.declared.stop.Direction.{Direction}
 use Rattle.mr_iter.specs.Versions.{Version}
+use Rattle.mr_memtable.specs.declared.piece.Piece.{Piece}
 use Rattle.mr_memtable.specs.declared.slot.Slot.{Slot}
 use Rattle.mr_memtable.specs.declared.chunk.Chunk.{Chunk}
 use Rattle.mr_memtable.specs.Slots.{Fits, goes_before, no_slot, IsPlace}
@@ -22,15 +23,15 @@ some_at [] i c lt at all = absurd (omega arith)
 some_at (b ∷ bs) zero c lt at all = subst (λ (d : Chunk). 1 ≤ length d.slots.items) (sym at) all.0
 some_at (b ∷ bs) (suc i) c lt at all = some_at bs i c (omega arith) at all.1
 
-pub fit_at : (bytes : List ℕ) (cs : List Chunk) (i : ℕ) (c : Chunk) → i < length cs → c ≡ get_or cs i c → AllFit bytes cs → AllByRecursion (Fits bytes) c.slots.items
-fit_at bytes [] i c lt at all = absurd (omega arith)
-fit_at bytes (b ∷ bs) zero c lt at all = subst (λ (d : Chunk). AllByRecursion (Fits bytes) d.slots.items) (sym at) all.0
-fit_at bytes (b ∷ bs) (suc i) c lt at all = fit_at bytes bs i c (omega arith) at all.1
+pub fit_at : (pieces : List Piece) (cs : List Chunk) (i : ℕ) (c : Chunk) → i < length cs → c ≡ get_or cs i c → AllFit pieces cs → AllByRecursion (Fits pieces) c.slots.items
+fit_at pieces [] i c lt at all = absurd (omega arith)
+fit_at pieces (b ∷ bs) zero c lt at all = subst (λ (d : Chunk). AllByRecursion (Fits pieces) d.slots.items) (sym at) all.0
+fit_at pieces (b ∷ bs) (suc i) c lt at all = fit_at pieces bs i c (omega arith) at all.1
 
-pub fit_one : (bytes : List ℕ) (ss : List Slot) (i : ℕ) (d : Slot) → i < length ss → AllByRecursion (Fits bytes) ss → Fits bytes (get_or ss i d)
-fit_one bytes [] i d lt all = absurd (omega arith)
-fit_one bytes (s ∷ ss) zero d lt all = all.0
-fit_one bytes (s ∷ ss) (suc i) d lt all = fit_one bytes ss i d (omega arith) all.1
+pub fit_one : (pieces : List Piece) (ss : List Slot) (i : ℕ) (d : Slot) → i < length ss → AllByRecursion (Fits pieces) ss → Fits pieces (get_or ss i d)
+fit_one pieces [] i d lt all = absurd (omega arith)
+fit_one pieces (s ∷ ss) zero d lt all = all.0
+fit_one pieces (s ∷ ss) (suc i) d lt all = fit_one pieces ss i d (omega arith) all.1
 
 pub any_default : (ss : List Slot) (i : ℕ) (d e : Slot) → i < length ss → get_or ss i d ≡ get_or ss i e
 any_default [] i d e lt = absurd (omega arith)
@@ -79,26 +80,26 @@ chunk_next cs i c lt at all = go cs i lt at all ∙ ap (first_slot cs) (sym (add
         ap (λ (n : ℕ). get_or (b.slots.items ++ listed (a ∷ bs)) n no_slot) e ∙ get_or-append-add b.slots.items (listed (a ∷ bs)) (sum_of (take i (sizes (a ∷ bs))) + length c.slots.items) no_slot ∙ go (a ∷ bs) i (omega arith) at all.1
 
 -- no chunk begins before x
-pub place_first : (d : Direction) (bytes : List ℕ) (x : Version) (cs : List Chunk) → AllByRecursion (λ n. 1 ≤ n) (sizes cs) → (0 < length cs → goes_before d bytes x (first_slot cs 0) ≡ false) → IsPlace d bytes x (listed cs) 0
-place_first d bytes x [] all behind = record { within = omega arith; before = λ lt. absurd (omega arith); behind = λ lt. absurd (omega arith) }
-place_first d bytes x (c ∷ cs) all behind = record { within = omega arith; before = λ lt. absurd (omega arith); behind = λ _. ap (goes_before d bytes x) (head_listed c cs no_slot all.0) ∙ behind (omega arith) }
+pub place_first : (d : Direction) (pieces : List Piece) (x : Version) (cs : List Chunk) → AllByRecursion (λ n. 1 ≤ n) (sizes cs) → (0 < length cs → goes_before d pieces x (first_slot cs 0) ≡ false) → IsPlace d pieces x (listed cs) 0
+place_first d pieces x [] all behind = record { within = omega arith; before = λ lt. absurd (omega arith); behind = λ lt. absurd (omega arith) }
+place_first d pieces x (c ∷ cs) all behind = record { within = omega arith; before = λ lt. absurd (omega arith); behind = λ _. ap (goes_before d pieces x) (head_listed c cs no_slot all.0) ∙ behind (omega arith) }
 
 -- chunk i is the last that begins before x, and q is its place there
-pub place_at : (d : Direction) (bytes : List ℕ) (x : Version) (cs : List Chunk) (i q : ℕ) (c : Chunk) → AllByRecursion (λ n. 1 ≤ n) (sizes cs) → i < length cs → c ≡ get_or cs i c →
-    goes_before d bytes x (first_slot cs i) ≡ true → (i + 1 < length cs → goes_before d bytes x (first_slot cs (i + 1)) ≡ false) →
-    q ≤ length c.slots.items → (0 < q → goes_before d bytes x (get_or c.slots.items (q - 1) no_slot) ≡ true) → (q < length c.slots.items → goes_before d bytes x (get_or c.slots.items q no_slot) ≡ false) →
-    IsPlace d bytes x (listed cs) (sum_of (take i (sizes cs)) + q)
-place_at d bytes x cs i q c all lt at begins next within before behind = record {
+pub place_at : (d : Direction) (pieces : List Piece) (x : Version) (cs : List Chunk) (i q : ℕ) (c : Chunk) → AllByRecursion (λ n. 1 ≤ n) (sizes cs) → i < length cs → c ≡ get_or cs i c →
+    goes_before d pieces x (first_slot cs i) ≡ true → (i + 1 < length cs → goes_before d pieces x (first_slot cs (i + 1)) ≡ false) →
+    q ≤ length c.slots.items → (0 < q → goes_before d pieces x (get_or c.slots.items (q - 1) no_slot) ≡ true) → (q < length c.slots.items → goes_before d pieces x (get_or c.slots.items q no_slot) ≡ false) →
+    IsPlace d pieces x (listed cs) (sum_of (take i (sizes cs)) + q)
+place_at d pieces x cs i q c all lt at begins next within before behind = record {
   within = omega (arith, chunk_within cs i c lt at, within);
   before = λ pos.
       let e : (sum_of (take i (sizes cs)) + q) - 1 ≡ sum_of (take i (sizes cs)) + (q - 1) = omega (arith, inside) in
-      ap (λ (n : ℕ). goes_before d bytes x (get_or (listed cs) n no_slot)) e ∙ ap (goes_before d bytes x) (in_chunk cs i (q - 1) c no_slot lt at (omega (arith, inside, within))) ∙ before inside;
+      ap (λ (n : ℕ). goes_before d pieces x (get_or (listed cs) n no_slot)) e ∙ ap (goes_before d pieces x) (in_chunk cs i (q - 1) c no_slot lt at (omega (arith, inside, within))) ∙ before inside;
   behind = λ less. elim (cases_lt q (length c.slots.items)) [
-    | inl here ↦ ap (goes_before d bytes x) (in_chunk cs i q c no_slot lt at here) ∙ behind here
+    | inl here ↦ ap (goes_before d pieces x) (in_chunk cs i q c no_slot lt at here) ∙ behind here
     | inr end ↦
         let e : sum_of (take i (sizes cs)) + q ≡ sum_of (take i (sizes cs)) + length c.slots.items = omega (arith, end, within) in
         elim (cases_lt (i + 1) (length cs)) [
-          | inl more ↦ ap (λ (n : ℕ). goes_before d bytes x (get_or (listed cs) n no_slot)) e ∙ ap (goes_before d bytes x) (chunk_next cs i c more at all) ∙ next more
+          | inl more ↦ ap (λ (n : ℕ). goes_before d pieces x (get_or (listed cs) n no_slot)) e ∙ ap (goes_before d pieces x) (chunk_next cs i c more at all) ∙ next more
           | inr none ↦ absurd (omega (arith, chunk_last cs i c (omega (arith, none, lt)) at, less, end, within))
         ]
   ];
@@ -106,9 +107,9 @@ place_at d bytes x cs i q c all lt at begins next within before behind = record 
   where
     not_first : q ≡ 0 → ⊥
     not_first e =
-        let e1 : goes_before d bytes x (get_or c.slots.items 0 no_slot) ≡ true = sym (ap (goes_before d bytes x) (first_is cs i c lt at)) ∙ begins in
-        let e2 : goes_before d bytes x (get_or c.slots.items q no_slot) ≡ false = behind (omega (arith, e, some_at cs i c lt at all)) in
-        let e3 : goes_before d bytes x (get_or c.slots.items 0 no_slot) ≡ false = ap (λ (n : ℕ). goes_before d bytes x (get_or c.slots.items n no_slot)) (sym e) ∙ e2 in
+        let e1 : goes_before d pieces x (get_or c.slots.items 0 no_slot) ≡ true = sym (ap (goes_before d pieces x) (first_is cs i c lt at)) ∙ begins in
+        let e2 : goes_before d pieces x (get_or c.slots.items q no_slot) ≡ false = behind (omega (arith, e, some_at cs i c lt at all)) in
+        let e3 : goes_before d pieces x (get_or c.slots.items 0 no_slot) ≡ false = ap (λ (n : ℕ). goes_before d pieces x (get_or c.slots.items n no_slot)) (sym e) ∙ e2 in
         cc
 
     inside : 0 < q

@@ -1,6 +1,7 @@
 -- A list in chunks.
 use Rattle.std.specs.Prelude.{ℕ, ◌+◌, ◌<◌, ◌≤◌, List, [], ◌∷◌, ◌++◌, length, map, get_or, zero, suc, vec_capacity}
 use Rattle.std.specs.List.{AllByRecursion}
+use Rattle.mr_memtable.specs.declared.piece.Piece.{Piece}
 use Rattle.mr_memtable.specs.declared.slot.Slot.{Slot}
 use Rattle.mr_memtable.specs.Slots.{Fits, no_slot}
 use Rattle.mr_memtable.specs.declared.chunk.Chunk.{Chunk}
@@ -31,9 +32,9 @@ abbrev pub sum_of : List ℕ → ℕ
 sum_of [] = 0
 sum_of (n ∷ ns) = n + sum_of ns
 
--- all their slots fit these bytes
-abbrev pub AllFit : List ℕ → List Chunk → Type 0
-AllFit bytes cs = AllByRecursion (λ c. AllByRecursion (Fits bytes) c.slots.items) cs
+-- all their slots fit these pieces
+abbrev pub AllFit : List Piece → List Chunk → Type 0
+AllFit pieces cs = AllByRecursion (λ c. AllByRecursion (Fits pieces) c.slots.items) cs
 
 -- the first slot of chunk i
 abbrev pub first_slot : List Chunk → ℕ → Slot

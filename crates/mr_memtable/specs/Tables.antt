@@ -3,8 +3,9 @@ use Rattle.std.specs.Prelude.{◌≡◌, ℕ, ◌+◌, ◌*◌, ◌-◌, ◌^◌
 use Rattle.mr_base.specs.declared.stop.Direction.{Direction}
 use Rattle.mr_iter.specs.Versions.{Version, version_cmp, IsInOrder, first, is_strict}
 use Rattle.mr_iter.specs.Cursors.{CursorState}
+use Rattle.mr_memtable.specs.declared.piece.Piece.{Piece}
 use Rattle.mr_memtable.specs.declared.chunk.Chunk.{Chunk}
-use Rattle.mr_memtable.specs.Slots.{versions_at}
+use Rattle.mr_memtable.specs.Slots.{versions_at, room_in}
 use Rattle.mr_memtable.specs.Chunks.{listed, sizes, sum_of, AllFit, AreFilled, HaveRoom, AreSpare}
 
 -- Its direction, its versions in order, and the entries and the bytes of keys and values for which it has room.
@@ -37,13 +38,13 @@ standing_at direction vs n = record {
 abbrev pub at_beginning : MemState → CursorState
 at_beginning m = standing_at m.direction m.versions 0
 
-abbrev pub versions_in : List ℕ → List Chunk → List Version
-versions_in bytes chunks = versions_at bytes (listed chunks)
+abbrev pub versions_in : List Piece → List Chunk → List Version
+versions_in pieces chunks = versions_at pieces (listed chunks)
 
--- the slots are within the bytes and in order, and there is memory for so many entries and bytes more
-pub record IsKept (direction : Direction) (bytes : List ℕ) (chunks spares : List Chunk) (count entries_left bytes_left most_bytes most_chunks : ℕ) : Type 0 where
-  pub fit : AllFit bytes chunks
-  pub ordered : IsInOrder (version_cmp direction) (versions_in bytes chunks)
+-- the slots are within the pieces and in order, and there is memory for so many entries more, and for so many bytes in the last piece
+pub record IsKept (direction : Direction) (pieces : List Piece) (chunks spares : List Chunk) (count entries_left bytes_left most_chunks : ℕ) : Type 0 where
+  pub fit : AllFit pieces chunks
+  pub ordered : IsInOrder (version_cmp direction) (versions_in pieces chunks)
   pub filled : AreFilled (sizes chunks)
   pub rooms : HaveRoom chunks
   pub spare : AreSpare spares
@@ -51,7 +52,8 @@ pub record IsKept (direction : Direction) (bytes : List ℕ) (chunks spares : Li
   pub counts : count + entries_left < 2 ^ 64
   pub entries : count + entries_left ≤ 128 * (length chunks + length spares)
   pub few : length chunks + length spares ≤ most_chunks
-  pub room : length bytes + bytes_left ≤ most_bytes
+  pub some : 0 < entries_left → 0 < length pieces
+  pub room : bytes_left ≤ room_in pieces
 
 -- a place on a slot, or behind the last chunk
 pub record IsStanding (ns : List ℕ) (chunk at : ℕ) : Type 0 where

@@ -9,7 +9,7 @@ ghost use Rattle.mr_memtable.specs.Props.{IsStanding-prop};
 ghost use Rattle.mr_memtable.specs.Standing.{standing_in_order, standing_says, standing_going, standing_bounded, standing_in_place, standing_costs, standing_to_end};
 
 use crate::search::{Place, find};
-use crate::slot::Slot;
+use crate::slot::{Slot, key_of, value_of};
 use crate::table::Table;
 use crate::version::VersionRef;
 use mr_base::{Disk, Stop};
@@ -59,11 +59,7 @@ impl<'a> MemCursor<'a> {
         VersionRef {
             sequence: slot.sequence,
             is_put: slot.is_put,
-            value: if slot.is_put {
-                &table.bytes[slot.middle..slot.end]
-            } else {
-                &[]
-            },
+            value: value_of(&table.bytes, slot),
         }
     }
 
@@ -116,17 +112,11 @@ impl<'a> Listed for MemCursor<'a> {
     }
 
     fn key(&self) -> &[u8] {
-        let slot = self.slot();
-        &self.table.bytes[slot.start..slot.middle]
+        key_of(&self.table.bytes, self.slot())
     }
 
     fn value(&self) -> &[u8] {
-        let slot = self.slot();
-        if slot.is_put {
-            &self.table.bytes[slot.middle..slot.end]
-        } else {
-            &[]
-        }
+        value_of(&self.table.bytes, self.slot())
     }
 
     fn sequence(&self) -> u64 {

@@ -5,6 +5,7 @@ mod chunk;
 mod chunks;
 mod cursor;
 mod memtable;
+mod piece;
 mod search;
 mod slot;
 mod spare;

@@ -6,23 +6,24 @@ ghost use Rattle.mr_memtable.specs.Props.{IsKept-prop};
 
 use crate::chunk::{Chunk, HALF};
 use crate::chunks::put_slot;
+use crate::piece::{Piece, make_room};
 use crate::search::find;
 use crate::slot::store;
 use crate::spare::add_spares;
 use mr_base::{Direction, Memory};
 use std::alloc::Global;
 
-/// The slots in order, in chunks; the spare chunks; and the room that is left.
+/// The slots in order, in chunks; the bytes of their keys and values, in pieces; the spare chunks; and the room that is left.
 #[derive(Drop)]
 pub struct Table {
     pub direction: Direction,
-    pub bytes: Vec<u8>,
+    pub bytes: Vec<Piece>,
     pub chunks: Vec<Chunk>,
     pub spares: Vec<Chunk>,
     pub count: usize,
     pub entries: usize,
     pub free: usize,
-    ghost kept: { IsKept direction bytes.items chunks.items spares.items count entries free (vec_capacity bytes) (vec_capacity chunks) } by { IsKept-prop direction bytes.items chunks.items spares.items count entries free (vec_capacity bytes) (vec_capacity chunks) },
+    ghost kept: { IsKept direction bytes.items chunks.items spares.items count entries free (vec_capacity chunks) } by { IsKept-prop direction bytes.items chunks.items spares.items count entries free (vec_capacity chunks) },
 }
 
 impl Table {
@@ -59,7 +60,7 @@ impl Table {
             return Err(Memory);
         };
         add_spares(&mut self.chunks, &mut self.spares, most / HALF + 1)?;
-        self.bytes.try_reserve(bytes)?;
+        make_room(&mut self.bytes, bytes)?;
         self.entries = entries;
         self.free = bytes;
         Ok(())
@@ -75,9 +76,8 @@ impl Table {
         ensures free { self.new.free + (length key.now + length (unwrap_or (option_map (λ v. v.now) put.entry) [])) ≡ self.old.free }
     {
         let place = find(&self.bytes, &self.chunks, self.direction, key, sequence);
-        let before = self.bytes.len();
         let slot = store(&mut self.bytes, key, sequence, put);
-        self.free -= self.bytes.len() - before;
+        self.free -= slot.end - slot.start;
         put_slot(
             &mut self.chunks,
             &mut self.spares,

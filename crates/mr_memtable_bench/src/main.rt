@@ -1,4 +1,5 @@
-//! How long inserts of keys of one table in random order into a memtable take, and a walk over as many in eight memtables as one:
+//! How long inserts of keys of one table in random order into a memtable take, with one `reserve` for all, one for each hundred and
+//! one for each; how long look-ups of these keys take; and a walk over as many in eight memtables as one:
 //! `mr_memtable_bench 100000 1000000`. Any other word stands for 10,000 inserts.
 #![tactic(auto)]
 
@@ -61,8 +62,9 @@ fn next(x: u64) -> u64 {
         .wrapping_add(1442695040888963407)
 }
 
-/// Inserts so many keys of one table, which the seed determines: an index number, and a random BIGINT below 2^32.
-fn fill(table: &mut Memtable, count: usize, seed: u64)
+/// Inserts so many keys of one table, which the seed determines: an index number, and a random BIGINT below 2^32. The result is the seed
+/// of further keys.
+fn fill(table: &mut Memtable, count: usize, seed: u64) -> u64
     requires entries { count ≤ table.old.entries }
     requires bytes { 12 * count ≤ table.old.bytes }
     ensures { table.new.direction ≡ table.old.direction }
@@ -74,6 +76,49 @@ fn fill(table: &mut Memtable, count: usize, seed: u64)
         let key = [0, 0, 1, 0, 128, 0, 0, 0, a[0], a[1], a[2], a[3]];
         table.insert(&key, i as u64, Some(b""));
     }
+    x
+}
+
+/// Inserts the keys of `fill` so many at a time, with a `reserve` before each of these times.
+fn fill_in_steps(table: &mut Memtable, times: usize, count: usize) -> Result<(), Memory>
+    requires { count ≤ 1000 }
+{
+    let mut x = 1;
+    for _ in 0..times {
+        table.reserve(count, 12 * count)?;
+        x = fill(table, count, x);
+    }
+    Ok(())
+}
+
+/// How many microseconds the longest `reserve` for a hundred keys takes, of so many.
+fn longest_reserve(rt: &HostRuntime, table: &mut Memtable, times: usize) -> io::Result<u128> {
+    let mut x = 1;
+    let mut longest = 0;
+    for _ in 0..times {
+        let start = Instant::now(rt)?;
+        if table.reserve(100, 1200).is_err() {
+            return Ok(longest);
+        }
+        longest = longest.max(start.elapsed(rt)?.as_micros());
+        x = fill(table, 100, x);
+    }
+    Ok(longest)
+}
+
+/// How many of so many keys of `fill` are found.
+fn look_up(table: &Memtable, count: usize, seed: u64) -> u64 {
+    let mut x = seed;
+    let mut found = 0u64;
+    for _ in 0..count {
+        x = next(x);
+        let a = x.to_be_bytes();
+        let key = [0, 0, 1, 0, 128, 0, 0, 0, a[0], a[1], a[2], a[3]];
+        if table.newest(&key, u64::MAX).is_some() {
+            found = found.saturating_add(1);
+        }
+    }
+    found
 }
 
 /// A memtable with so many random keys.
@@ -140,6 +185,30 @@ fn walk(alloc: Global, tables: &[Memtable]) -> Result<u64, Stop>
     count_steps(&mut disk, &mut merge)
 }
 
+/// Prints how long so many look-ups take.
+fn time_look_ups(rt: &HostRuntime, table: &Memtable, count: usize) -> io::Result<()> {
+    let start = Instant::now(rt)?;
+    let found = look_up(table, count, 1);
+    let took = start.elapsed(rt)?.as_micros();
+    println!(rt; "{count} look-ups, {found} found, {took} us")?;
+    Ok(())
+}
+
+/// Prints how long so many inserts take with a `reserve` before each `step` of them.
+fn time_steps(rt: &HostRuntime, count: usize, step: usize) -> io::Result<()>
+    requires some { 0 < step }
+    requires few { step ≤ 1000 }
+{
+    let mut table = Memtable::new(rt.alloc(), Direction::Forward);
+    let start = Instant::now(rt)?;
+    if fill_in_steps(&mut table, count / step, step).is_err() {
+        return Ok(());
+    }
+    let took = start.elapsed(rt)?.as_micros();
+    println!(rt; "{count} inserts, a reserve for each {step}, {took} us")?;
+    Ok(())
+}
+
 fn main(rt: HostRuntime) -> io::Result<()> {
     for word in env::args(&rt)?.skip(1) {
         let count = match word.as_str() {
@@ -155,6 +224,12 @@ fn main(rt: HostRuntime) -> io::Result<()> {
         fill(&mut table, count, 1);
         let took = start.elapsed(&rt)?.as_micros();
         println!(rt; "{count} inserts, {took} us")?;
+        time_look_ups(&rt, &table, count)?;
+        time_steps(&rt, count, 100)?;
+        time_steps(&rt, count, 1)?;
+        let mut table = Memtable::new(rt.alloc(), Direction::Forward);
+        let longest = longest_reserve(&rt, &mut table, count / 100)?;
+        println!(rt; "longest reserve for 100, {longest} us")?;
         let Ok(tables) = eight_tables(rt.alloc(), count / 8) else {
             return Ok(());
         };

@@ -10,8 +10,8 @@ is_chunk_before-requires-clause-some c =
     omega (arith, some, c.index-chunks-i.result.slots.ok.0)
 
 pub is_chunk_before-requires-clause-fit : goal.is_chunk_before-requires-clause-fit
-is_chunk_before-requires-clause-fit c = fit_at c.args.bytes.now c.args.chunks.now c.args.i c.index-chunks-i.result c.requires.within c.index-chunks-i.is c.requires.fit
+is_chunk_before-requires-clause-fit c = fit_at c.args.pieces.now c.args.chunks.now c.args.i c.index-chunks-i.result c.requires.within c.index-chunks-i.is c.requires.fit
 
 pub returns : goal.returns
 returns c =
-    c.is_chunk_before.ensures ∙ ap (goes_before c.args.direction c.args.bytes.now (as_version c.args.key.now c.args.sequence None)) (sym (first_is c.args.chunks.now c.args.i c.index-chunks-i.result c.requires.within c.index-chunks-i.is))
+    c.is_chunk_before.ensures ∙ ap (goes_before c.args.direction c.args.pieces.now (as_version c.args.key.now c.args.sequence None)) (sym (first_is c.args.chunks.now c.args.i c.index-chunks-i.result c.requires.within c.index-chunks-i.is))

@@ -8,8 +8,8 @@ abbrev pub invariant-halving : goal.invariant-halving
 invariant-halving l = record {
   order : l.low ≤ l.high;
   within : l.high ≤ length l.chunks;
-  before : 0 < l.low → goes_before l.direction l.bytes (as_version l.key l.sequence None) (first_slot l.chunks (l.low - 1)) ≡ true;
-  behind : l.high < length l.chunks → goes_before l.direction l.bytes (as_version l.key l.sequence None) (first_slot l.chunks l.high) ≡ false;
+  before : 0 < l.low → goes_before l.direction l.pieces (as_version l.key l.sequence None) (first_slot l.chunks (l.low - 1)) ≡ true;
+  behind : l.high < length l.chunks → goes_before l.direction l.pieces (as_version l.key l.sequence None) (first_slot l.chunks l.high) ≡ false;
 }
 
 abbrev pub decreases-halving : goal.decreases-halving

@@ -14,5 +14,5 @@ returns-then-front-chunk c =
     c.is_front_before.ensures
     ∙ ap (λ (m : ℕ). is_gt (front_cmp c.args.direction m c.args.chunk.now.front)) c.requires.front
     ∙ ap (λ (m : ℕ). is_gt (front_cmp c.args.direction (Rattle.mr_memtable.specs.Slots.front_of c.args.key.now) m)) front
-    ∙ by_front c.args.direction c.args.bytes.now c.args.key.now c.args.sequence slot (λ i. omega (arith, c.type_inv.bytes i)) (λ i. omega (arith, c.type_inv.key i)) (fit_one c.args.bytes.now slots 0 no_slot some c.requires.fit)
+    ∙ by_front c.args.direction c.args.pieces.now c.args.key.now c.args.sequence slot (λ i. omega (arith, c.type_inv.key i)) (fit_one c.args.pieces.now slots 0 no_slot some c.requires.fit)
     (λ same. c.if-front-chunk.true (c.requires.front ∙ same ∙ sym front))

@@ -19,5 +19,5 @@ returns-then-front-other c =
     c.is_front_before.ensures
     ∙ ap (λ (m : ℕ). is_gt (front_cmp c.args.direction m c.index-other.result.now)) c.requires.front
     ∙ ap (λ (m : ℕ). is_gt (front_cmp c.args.direction (front_of c.args.key.now) m)) front
-    ∙ by_front c.args.direction c.args.bytes.now c.args.key.now c.args.sequence slot (λ i. omega (arith, c.type_inv.bytes i)) (λ i. omega (arith, c.type_inv.key i)) (fit_one c.args.bytes.now slots c.args.at no_slot lt c.requires.fit)
+    ∙ by_front c.args.direction c.args.pieces.now c.args.key.now c.args.sequence slot (λ i. omega (arith, c.type_inv.key i)) (fit_one c.args.pieces.now slots c.args.at no_slot lt c.requires.fit)
     (λ same. c.if-front-other.true (c.requires.front ∙ same ∙ sym front))

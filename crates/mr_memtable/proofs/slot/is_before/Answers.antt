@@ -9,5 +9,5 @@ returns-then-front-slot c =
     let slot = c.args.slot.now in
     c.is_front_before.ensures
     ∙ ap (λ (m : ℕ). is_gt (front_cmp c.args.direction m slot.front)) c.requires.front
-    ∙ by_front c.args.direction c.args.bytes.now c.args.key.now c.args.sequence slot (λ i. omega (arith, c.type_inv.bytes i)) (λ i. omega (arith, c.type_inv.key i)) c.requires.fits
+    ∙ by_front c.args.direction c.args.pieces.now c.args.key.now c.args.sequence slot (λ i. omega (arith, c.type_inv.key i)) c.requires.fits
     (λ same. c.if-front-slot.true (c.requires.front ∙ same))

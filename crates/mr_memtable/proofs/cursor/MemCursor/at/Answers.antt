@@ -1,6 +1,7 @@
 use Rattle.std.proofs.Common.{◌+◌, ℕ, List, None, ◌∙◌, sym, ap, subst, drop, take}
 use Rattle.mr_iter.specs.Versions.{as_version, first}
 use Rattle.mr_iter.specs.Newest.{only_of}
+use Rattle.mr_memtable.specs.declared.piece.Piece.{Piece}
 use Rattle.mr_memtable.specs.declared.chunk.Chunk.{Chunk}
 use Rattle.mr_memtable.specs.Slots.{IsPlace}
 use Rattle.mr_memtable.specs.Chunks.{listed, sizes, sum_of}
@@ -15,7 +16,7 @@ returns c =
     let cs = c.args.table.now.chunks.items in
     let n = flat (sizes c.args.table.now.chunks.items) c.find-found.result.chunk c.find-found.result.at in
     let place : IsPlace d bytes (as_version c.args.key.now c.args.number None) (listed cs) n =
-    subst (λ (bs : List ℕ). IsPlace d bs (as_version c.args.key.now c.args.number None) (listed cs) n) c.deref.ensures.value
+    subst (λ (bs : List Piece). IsPlace d bs (as_version c.args.key.now c.args.number None) (listed cs) n) c.deref.ensures.value
     (subst (λ (ks : List Chunk). IsPlace d c.deref.result.now (as_version c.args.key.now c.args.number None) (listed ks) (sum_of (take c.find-found.result.chunk (sizes ks)) + c.find-found.result.at)) c.deref-2.ensures.value c.find-found.ensures.place) in
     record {
       newest = ap (λ (m : ℕ). only_of c.args.key.now (first (drop m (versions_in bytes cs)))) c.stand-place.ensures.flat

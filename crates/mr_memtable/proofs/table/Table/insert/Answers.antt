@@ -1,6 +1,7 @@
-use Rattle.std.proofs.Common.{◌≡◌, ◌+◌, ◌++◌, ℕ, List, [], None, length, take, unwrap_or, subst, ap, ◌∙◌, arith, length-append}
+use Rattle.std.proofs.Common.{◌+◌, List, None, take, subst, arith}
 use Rattle.std.specs.Option.{option_map}
 use Rattle.mr_iter.specs.Versions.{as_version}
+use Rattle.mr_memtable.specs.declared.piece.Piece.{Piece}
 use Rattle.mr_memtable.specs.declared.chunk.Chunk.{Chunk}
 use Rattle.mr_memtable.specs.Slots.{IsPlace}
 use Rattle.mr_memtable.specs.Chunks.{listed, sizes, sum_of}
@@ -18,23 +19,22 @@ invariant_of-self c =
     let put = option_map (λ v. v.now) c.args.put in
     let n = sum_of (take c.find-place.result.chunk (sizes c.args.self.now.chunks.items)) + c.find-place.result.at in
     let place : IsPlace c.args.self.now.direction c.args.self.now.bytes.items (as_version c.args.key.now c.args.sequence None) (listed c.args.self.now.chunks.items) (sum_of (take c.find-place.result.chunk (sizes c.args.self.now.chunks.items)) + c.find-place.result.at) =
-    subst (λ (bs : List ℕ). IsPlace d bs (as_version c.args.key.now c.args.sequence None) (listed c.args.self.now.chunks.items) (sum_of (take c.find-place.result.chunk (sizes c.args.self.now.chunks.items)) + c.find-place.result.at)) c.deref.ensures.value
+    subst (λ (bs : List Piece). IsPlace d bs (as_version c.args.key.now c.args.sequence None) (listed c.args.self.now.chunks.items) (sum_of (take c.find-place.result.chunk (sizes c.args.self.now.chunks.items)) + c.find-place.result.at)) c.deref.ensures.value
     (subst (λ (ks : List Chunk). IsPlace d c.deref.result.now (as_version c.args.key.now c.args.sequence None) (listed ks) (sum_of (take c.find-place.result.chunk (sizes ks)) + c.find-place.result.at)) c.deref-2.ensures.value c.find-place.ensures.place) in
     let k = c.args.self.now.kept in
     record {
       kept = record {
-        fit = still_fit d bytes (c.args.key.now ++ unwrap_or put []) c.store-slot.new.bytes.items cs c.put_slot.new.chunks.items c.args.key.now c.args.sequence n put c.store-slot.result c.store-slot.ensures.bytes k.fit k.ordered place c.store-slot.ensures.fits c.store-slot.ensures.version c.put_slot.ensures.list;
-        ordered = still_ordered d bytes (c.args.key.now ++ unwrap_or put []) c.store-slot.new.bytes.items cs c.put_slot.new.chunks.items c.args.key.now c.args.sequence n put c.store-slot.result c.store-slot.ensures.bytes k.fit k.ordered place c.store-slot.ensures.fits c.store-slot.ensures.version c.put_slot.ensures.list;
+        fit = still_fit d bytes c.store-slot.new.pieces.items cs c.put_slot.new.chunks.items c.args.key.now c.args.sequence n put c.store-slot.result c.store-slot.ensures.pieces k.fit k.ordered place c.store-slot.ensures.fits c.store-slot.ensures.version c.put_slot.ensures.list;
+        ordered = still_ordered d bytes c.store-slot.new.pieces.items cs c.put_slot.new.chunks.items c.args.key.now c.args.sequence n put c.store-slot.result c.store-slot.ensures.pieces k.fit k.ordered place c.store-slot.ensures.fits c.store-slot.ensures.version c.put_slot.ensures.list;
         filled = c.put_slot.ensures.filled;
         rooms = c.put_slot.ensures.rooms;
         spare = c.put_slot.ensures.spare;
-        counted = let e = one_more d bytes (c.args.key.now ++ unwrap_or put []) c.store-slot.new.bytes.items cs c.put_slot.new.chunks.items c.args.key.now c.args.sequence n put c.store-slot.result c.store-slot.ensures.bytes k.fit k.ordered place c.store-slot.ensures.fits c.store-slot.ensures.version c.put_slot.ensures.list in omega (arith, e, k.counted);
+        counted = let e = one_more d bytes c.store-slot.new.pieces.items cs c.put_slot.new.chunks.items c.args.key.now c.args.sequence n put c.store-slot.result c.store-slot.ensures.pieces k.fit k.ordered place c.store-slot.ensures.fits c.store-slot.ensures.version c.put_slot.ensures.list in omega (arith, e, k.counted);
         counts = omega (arith, k.counts, c.requires.entries);
         entries = omega (arith, k.entries, c.requires.entries, c.put_slot.ensures.count, c.args.self.now.chunks.ok.0, c.args.self.now.spares.ok.0, c.put_slot.new.chunks.ok.0, c.put_slot.new.spares.ok.0);
         few = omega (arith, k.few, c.put_slot.ensures.count, c.put_slot.ensures.capacity, c.args.self.now.chunks.ok.0, c.args.self.now.spares.ok.0, c.put_slot.new.chunks.ok.0, c.put_slot.new.spares.ok.0);
-        room =
-            let more : length c.store-slot.new.bytes.items ≡ length bytes + (length c.args.key.now + length (unwrap_or put [])) = ap length c.store-slot.ensures.bytes ∙ length-append bytes (c.args.key.now ++ unwrap_or put []) ∙ ap (λ m. length bytes + m) (length-append c.args.key.now (unwrap_or put [])) in
-            omega (arith, more, k.room, c.requires.free, c.len.ensures, c.len-before.ensures, c.store-slot.ensures.capacity, c.args.self.now.bytes.ok.0, c.store-slot.new.bytes.ok.0);
+        some = λ _. omega (arith, k.some c.requires.entries, c.store-slot.ensures.count, c.args.self.now.bytes.ok.0, c.store-slot.new.pieces.ok.0);
+        room = omega (arith, k.room, c.requires.free, c.store-slot.ensures.size, c.store-slot.ensures.room);
       };
     }
 
@@ -46,7 +46,7 @@ returns-clause-versions c =
     let put = option_map (λ v. v.now) c.args.put in
     let n = sum_of (take c.find-place.result.chunk (sizes c.args.self.now.chunks.items)) + c.find-place.result.at in
     let place : IsPlace c.args.self.now.direction c.args.self.now.bytes.items (as_version c.args.key.now c.args.sequence None) (listed c.args.self.now.chunks.items) (sum_of (take c.find-place.result.chunk (sizes c.args.self.now.chunks.items)) + c.find-place.result.at) =
-    subst (λ (bs : List ℕ). IsPlace d bs (as_version c.args.key.now c.args.sequence None) (listed c.args.self.now.chunks.items) (sum_of (take c.find-place.result.chunk (sizes c.args.self.now.chunks.items)) + c.find-place.result.at)) c.deref.ensures.value
+    subst (λ (bs : List Piece). IsPlace d bs (as_version c.args.key.now c.args.sequence None) (listed c.args.self.now.chunks.items) (sum_of (take c.find-place.result.chunk (sizes c.args.self.now.chunks.items)) + c.find-place.result.at)) c.deref.ensures.value
     (subst (λ (ks : List Chunk). IsPlace d c.deref.result.now (as_version c.args.key.now c.args.sequence None) (listed ks) (sum_of (take c.find-place.result.chunk (sizes ks)) + c.find-place.result.at)) c.deref-2.ensures.value c.find-place.ensures.place) in
     let k = c.args.self.now.kept in
-    inserted d bytes (c.args.key.now ++ unwrap_or put []) c.store-slot.new.bytes.items cs c.put_slot.new.chunks.items c.args.key.now c.args.sequence n put c.store-slot.result c.store-slot.ensures.bytes k.fit k.ordered place c.store-slot.ensures.fits c.store-slot.ensures.version c.put_slot.ensures.list
+    inserted d bytes c.store-slot.new.pieces.items cs c.put_slot.new.chunks.items c.args.key.now c.args.sequence n put c.store-slot.result c.store-slot.ensures.pieces k.fit k.ordered place c.store-slot.ensures.fits c.store-slot.ensures.version c.put_slot.ensures.list
