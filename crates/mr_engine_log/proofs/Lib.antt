@@ -1,0 +1,5 @@
+mod Opened
+mod Ready
+mod Replaying
+mod Sequenced
+mod Stops

@@ -1,2 +1,5 @@
+pub mod Added
 pub mod Logged
 pub mod Reading
+pub mod Sequences
+pub mod Standing
