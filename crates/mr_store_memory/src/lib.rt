@@ -1,0 +1,2 @@
+//! Families in memory beside what the files of a store say.
+#![tactic(auto)]
