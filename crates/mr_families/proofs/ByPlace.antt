@@ -1,5 +1,5 @@
 -- What a call of the family at a place says of the families, and what a look-up reads.
-use Rattle.std.proofs.Common.{◌≡◌, ◌==◌, ℕ, ◌+◌, ◌<◌, ◌≤◌, Bool, true, false, cond, List, [], ◌∷◌, ◌++◌, length, length-append, length-take, length-drop, filter, set, get_or, map, Ok, Err, refl, sym, ◌∙◌, ap, subst, inl, inr, arith}
+use Rattle.std.proofs.Common.{◌≡◌, ◌==◌, ℕ, ◌+◌, ◌<◌, ◌≤◌, Bool, true, false, cond, List, [], ◌∷◌, ◌++◌, length, length-append, length-take, drop, filter, set, get_or, map, Ok, Err, refl, sym, ◌∙◌, ap, subst, inl, inr, arith}
 use Rattle.std.specs.List.{AllByRecursion, prefix_len}
 use Rattle.mr_base.specs.Disk.{Image}
 use Rattle.mr_base.specs.declared.stop.Direction.{Direction}
@@ -49,7 +49,7 @@ few_filtered p (x ∷ xs) = elim (p x) as (λ b. length (cond b (x ∷ filter p 
 ]
 
 one_part : (d : Direction) (key : List ℕ) (rs : List RunState) → length (part_of d key rs) ≤ 1
-one_part d key rs = omega (arith, length-take)
+one_part d key rs = omega (arith, length-take 1 (drop (prefix_len (ends_before d key) rs) rs))
 
 one_a_level : (d : Direction) (key : List ℕ) (rss : List (List RunState)) → length (parts_of d key rss) ≤ length rss
 one_a_level d key [] = omega arith

@@ -1,5 +1,5 @@
 pub mod Naming
-pub mod Numbering
+mod Numbering
 mod Searched
 mod Telling
 mod Batched
