@@ -1,7 +1,6 @@
 -- Batches in parts, and the room for them.
-use Rattle.std.proofs.Common.{◌≡◌, ◌==◌, ℕ, ◌+◌, ◌<◌, ◌≤◌, if◌then◌else◌, Bool, true, false, List, [], ◌∷◌, ◌++◌, set, length, get_or, take, drop, suc, add-one, drop-cons, refl, sym, ◌∙◌, ap, subst, inl, inr, arith}
+use Rattle.std.proofs.Common.{◌≡◌, ◌==◌, ℕ, ◌+◌, ◌<◌, ◌≤◌, if◌then◌else◌, true, false, List, [], ◌∷◌, ◌++◌, set, length, get_or, take, drop, suc, add-one, drop-cons, refl, sym, ◌∙◌, ap, subst, arith}
 use Rattle.std.specs.List.{AllByRecursion}
-use Rattle.std.proofs.lemmas.Bool.{cases_Bool}
 use Rattle.std.proofs.lemmas.Grind.{common_steps}
 use Rattle.mr_base.specs.declared.stop.Direction.{Direction}
 use Rattle.mr_iter.specs.Versions.{Version, version_cmp, place_in}
@@ -9,9 +8,9 @@ use Rattle.mr_wal.specs.declared.operation.Operation.{Operation}
 use Rattle.mr_levels.specs.Levels.{LevelsState}
 use Rattle.mr_family.specs.Family.{FamilyState, direction}
 use Rattle.mr_families.specs.declared.numbered.Numbered.{Numbered}
-use Rattle.mr_families.specs.Known.{family_at, numbers, is_known, is_listed, one_at, no_one, AreAscending, AreKept, IsAt}
+use Rattle.mr_families.specs.Known.{family_at, numbers, is_listed, one_at, AreAscending, IsAt}
 use Rattle.mr_families.specs.Batches.{version_of, with_operations, size_of, entries_for, bytes_for, AreKnown, AreAwaited, Takes, Added}
-use Rattle.mr_families.proofs.Numbering.{number_at, itself, at_place, numbers-set, each-set}
+use Rattle.mr_families.proofs.Numbering.{number_at, itself, numbers-set, each-set}
 
 with_operations-append : (d : Direction) (f sequence : ℕ) (os ps : List Operation) (vs : List Version) → with_operations d f sequence (os ++ ps) vs ≡ with_operations d f sequence ps (with_operations d f sequence os vs)
 with_operations-append d f sequence [] ps vs = refl

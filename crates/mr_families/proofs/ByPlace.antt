@@ -1,11 +1,9 @@
 -- What a call of the family at a place says of the families, and what a look-up reads.
-use Rattle.std.proofs.Common.{◌≡◌, ◌==◌, ℕ, ◌+◌, ◌<◌, ◌≤◌, Bool, true, false, cond, List, [], ◌∷◌, ◌++◌, length, length-append, length-take, drop, filter, set, get_or, map, Ok, Err, refl, sym, ◌∙◌, ap, subst, inl, inr, arith}
+use Rattle.std.proofs.Common.{◌≡◌, ◌==◌, ℕ, ◌+◌, ◌≤◌, Bool, true, false, cond, List, [], ◌∷◌, ◌++◌, length, length-append, length-take, drop, filter, set, get_or, map, Err, sym, ◌∙◌, ap, subst, inl, inr, arith}
 use Rattle.std.specs.List.{AllByRecursion, prefix_len}
 use Rattle.mr_base.specs.Disk.{Image}
 use Rattle.mr_base.specs.declared.stop.Direction.{Direction}
-use Rattle.mr_base.specs.declared.stop.Direction.TheVariants.{Forward}
 use Rattle.mr_iter.specs.Children.{AnyOf}
-use Rattle.mr_iter.specs.Cursors.{SameFiles}
 use Rattle.mr_run_file.specs.Reading.{Indexed, versions_at}
 use Rattle.mr_run_open.specs.Runs.{RunState, no_block}
 use Rattle.mr_run_get.specs.Get.{IsOffenceIn}
@@ -14,7 +12,7 @@ use Rattle.mr_levels.specs.Looks.{ends_before, can_hold, part_of, parts_of, look
 use Rattle.mr_levels.proofs.Skipping.{each_looked}
 use Rattle.mr_family.specs.Family.{FamilyState, reads_of}
 use Rattle.mr_families.specs.declared.numbered.Numbered.{Numbered}
-use Rattle.mr_families.specs.Known.{family_at, one_at, AreAscending, IsAt, empty_family}
+use Rattle.mr_families.specs.Known.{family_at, one_at, AreAscending, IsAt}
 use Rattle.mr_families.specs.Changed.{OnlyAt}
 use Rattle.mr_families.proofs.Numbering.{number_at, at_place, numbers-set, others-set, own-at}
 

@@ -1,19 +1,17 @@
 -- What families need for a batch, and room for it.
-use Rattle.std.proofs.Common.{◌≡◌, ◌≢◌, ◌==◌, ℕ, zero, suc, ◌+◌, ◌<◌, ◌≤◌, if◌then◌else◌, Bool, true, false, List, [], ◌∷◌, ◌++◌, length, length-set, map, get_or, set, take, drop, refl, sym, ◌∙◌, ap, subst, inl, inr, arith}
-use Rattle.std.specs.List.{AllByRecursion}
+use Rattle.std.proofs.Common.{◌≡◌, ◌≢◌, ◌==◌, ℕ, zero, suc, ◌+◌, ◌<◌, ◌≤◌, if◌then◌else◌, Bool, true, false, List, [], ◌∷◌, ◌++◌, length, length-set, get_or, set, refl, sym, ◌∙◌, ap, subst, inl, inr, arith}
 use Rattle.std.proofs.lemmas.Bool.{cases_Bool}
 use Rattle.std.proofs.lemmas.Bool.Decides.{nat_tests}
-use Rattle.std.proofs.lemmas.List.{length-map, get_or_read, get_or-set_same, get_or-set_other, get_or-replicate}
+use Rattle.std.proofs.lemmas.List.{length-map, get_or_read, get_or-set_same, get_or-set_other}
 use Rattle.mr_wal.specs.declared.operation.Operation.{Operation}
-use Rattle.mr_family.specs.Family.{FamilyState}
 use Rattle.mr_families.specs.declared.numbered.Numbered.{Numbered}
 use Rattle.mr_families.specs.declared.need.Need.{Need}
-use Rattle.mr_families.specs.Known.{family_at, numbers, is_known, one_at, no_one, AreAscending, AreKept, IsAt, IsGapFor}
+use Rattle.mr_families.specs.Known.{family_at, numbers, is_known, one_at, AreAscending, IsAt, IsGapFor}
 use Rattle.mr_families.specs.Changed.{without_room, SameButRooms}
 use Rattle.mr_families.specs.Batches.{size_of, entries_for, bytes_for, AreKnown, AreAwaited}
 use Rattle.mr_families.specs.Rooms.{no_need, need_at, IsNeed, AreNeeds, HasRoom}
 use Rattle.mr_families.proofs.Numbering.{number_at, same_of, differ, gap_is_nowhere, numbers-set, each-set}
-use Rattle.mr_families.proofs.Batched.{entries-append, bytes-append, entries_own, bytes_own, entries_other, bytes_other, known_stay}
+use Rattle.mr_families.proofs.Batched.{entries-append, bytes-append, entries_own, bytes_own, entries_other, bytes_other}
 
 -- ---- what is needed
 

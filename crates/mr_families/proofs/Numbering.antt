@@ -1,14 +1,14 @@
 -- Families by the places of their numbers.
-use Rattle.std.proofs.Common.{◌≡◌, ◌≢◌, ◌==◌, ℕ, zero, suc, ◌+◌, ◌<◌, ◌≤◌, if◌then◌else◌, Bool, true, false, List, [], ◌∷◌, length, get_or, set, take, drop, Result, Ok, Err, IfOk, IfErr, is_ok, refl, sym, ◌∙◌, ap, subst, inl, inr, arith}
+use Rattle.std.proofs.Common.{◌≡◌, ◌≢◌, ◌==◌, ℕ, zero, suc, ◌+◌, ◌<◌, ◌≤◌, if◌then◌else◌, Bool, true, false, List, [], ◌∷◌, length, set, Result, Ok, Err, IfOk, IfErr, is_ok, refl, sym, ◌∙◌, ap, subst, inl, inr, arith}
 use Rattle.std.specs.List.{insert}
 use Rattle.std.proofs.lemmas.Bool.{cases_Bool}
 use Rattle.std.proofs.lemmas.Bool.Decides.{nat_tests}
 use Rattle.std.proofs.lemmas.List.{length-set, get_or-set_same, get_or-set_other}
-use Rattle.std.proofs.lemmas.List.Edits.{length-insert, get_or-insert_below, get_or-insert_at, get_or-insert_above}
+use Rattle.std.proofs.lemmas.List.Edits.{length-insert}
 use Rattle.mr_base.specs.declared.stop.Direction.TheVariants.{Forward}
 use Rattle.mr_family.specs.Family.{FamilyState}
 use Rattle.mr_families.specs.declared.numbered.Numbered.{Numbered}
-use Rattle.mr_families.specs.Known.{family_at, empty_family, numbers, is_known, is_listed, one_at, no_one, AreAscending, AreKept, IsTold, IsAt, IsGapFor}
+use Rattle.mr_families.specs.Known.{family_at, empty_family, numbers, is_known, one_at, no_one, AreAscending, AreKept, IsTold, IsAt, IsGapFor}
 
 abbrev pub number_at : List Numbered → ℕ → ℕ
 number_at ns i = (one_at ns i).number

@@ -1,12 +1,11 @@
 -- What a call changes of the families.
-use Rattle.std.specs.Prelude.{◌≡◌, ◌==◌, ◌&&◌, ◌+◌, ℕ, Bool, true, false, not, if◌then◌else◌, List}
+use Rattle.std.specs.Prelude.{◌≡◌, ◌==◌, ◌&&◌, ℕ, Bool, true, false, not, if◌then◌else◌, List}
 use Rattle.mr_base.specs.Disk.{Image}
 use Rattle.mr_base.specs.declared.stop.Direction.{Direction}
 use Rattle.mr_base.specs.declared.stop.Direction.TheVariants.{Forward, Reverse}
-use Rattle.mr_iter.specs.Versions.{Version}
 use Rattle.mr_family.specs.Family.{FamilyState, direction, versions}
 use Rattle.mr_families.specs.declared.numbered.Numbered.{Numbered}
-use Rattle.mr_families.specs.Known.{family_at, numbers, is_known, empty_memory, empty_family, is_empty}
+use Rattle.mr_families.specs.Known.{family_at, numbers, is_known, empty_family, is_empty}
 
 -- nothing but the family of this number changes
 pub record OnlyAt (number : ℕ) (old new : List Numbered) : Type 0 where

@@ -3,8 +3,8 @@ use Rattle.std.specs.Prelude.{◌≡◌, ◌==◌, ◌&&◌, ℕ, ◌<◌, ◌�
 use Rattle.mr_base.specs.declared.stop.Direction.{Direction}
 use Rattle.mr_base.specs.declared.stop.Direction.TheVariants.{Forward}
 use Rattle.mr_memtable.specs.Tables.{MemState}
-use Rattle.mr_levels.specs.Levels.{LevelsState, no_runs, runs}
-use Rattle.mr_family.specs.Family.{FamilyState, direction}
+use Rattle.mr_levels.specs.Levels.{no_runs, runs}
+use Rattle.mr_family.specs.Family.{FamilyState}
 use Rattle.mr_families.specs.declared.numbered.Numbered.{Numbered}
 
 -- no version in memory, and no room

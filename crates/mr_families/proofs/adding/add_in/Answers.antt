@@ -1,4 +1,4 @@
-use Rattle.std.proofs.Common.{◌≡◌, ◌+◌, ◌∷◌, ◌++◌, ◌∙◌, [], List, take, drop, sym, ap, subst}
+use Rattle.std.proofs.Common.{◌≡◌, ◌+◌, ◌∷◌, ◌++◌, [], List, take, drop, sym, subst}
 use Rattle.mr_wal.specs.declared.operation.Operation.{Operation}
 use Rattle.mr_families.specs.Batches.{AreAwaited, Added}
 use Rattle.mr_families.proofs.Batched.{added_then, rest_awaited, front_more, next_of}

@@ -1,8 +1,8 @@
-use Rattle.std.proofs.Common.{◌≡◌, ◌<◌, ◌≤◌, ◌∙◌, List, set, sym, ap, subst}
+use Rattle.std.proofs.Common.{◌≡◌, ◌<◌, ◌≤◌, ◌∙◌, List, sym, ap, subst}
 use Rattle.std.proofs.lemmas.List.{get_or_read}
 use Rattle.mr_family.specs.Family.{FamilyState}
 use Rattle.mr_families.specs.declared.numbered.Numbered.{Numbered}
-use Rattle.mr_families.specs.Known.{AreKept, IsAt, IsGapFor, one_at, no_one, family_at}
+use Rattle.mr_families.specs.Known.{IsAt, IsGapFor, one_at, no_one, family_at}
 use Rattle.mr_families.specs.Batches.{size_of}
 use Rattle.mr_families.proofs.Numbering.{at_place, kept-set, known_is_not_absent}
 use Rattle.mr_families.proofs.Batched.{added_at}

@@ -1,4 +1,4 @@
-use Rattle.std.proofs.Common.{◌≡◌, ◌∙◌, true, false, List, set, sym, ap, subst, rules}
+use Rattle.std.proofs.Common.{◌≡◌, ◌∙◌, true, false, List, sym, subst, rules}
 use Rattle.std.proofs.lemmas.List.{get_or_read}
 use Rattle.mr_families.specs.declared.numbered.Numbered.{Numbered}
 use Rattle.mr_families.specs.Known.{AreKept, one_at, no_one}

@@ -1,4 +1,4 @@
-use Rattle.std.proofs.Common.{◌≡◌, ◌≢◌, ◌≤◌, ◌+◌, ℕ, List, length, set, IfOk, IfErr, OnOk, sym, ap, subst, None, refl}
+use Rattle.std.proofs.Common.{◌≡◌, ◌≢◌, ◌≤◌, ◌+◌, ℕ, List, length, IfOk, IfErr, OnOk, sym, subst, None, refl}
 use Rattle.std.specs.Option.{option_map}
 use Rattle.std.specs.List.{AllByRecursion}
 use Rattle.std.proofs.lemmas.List.{get_or_read}
@@ -13,7 +13,7 @@ use Rattle.mr_levels.specs.Levels.{runs}
 use Rattle.mr_levels.specs.Looks.{looked, Brings, HasKeyOffence, AreSorted, AreGapless}
 use Rattle.mr_family.specs.Family.{FamilyState, files, versions, IsWhole, IsTrueTo, reads_of, bytes_of, IsWarmFor}
 use Rattle.mr_families.specs.declared.numbered.Numbered.{Numbered}
-use Rattle.mr_families.specs.Known.{IsAt, IsGapFor, one_at, no_one, family_at, empty_family}
+use Rattle.mr_families.specs.Known.{IsAt, IsGapFor, one_at, no_one, empty_family}
 use Rattle.mr_families.proofs.Numbering.{none_in_gap}
 use Rattle.mr_families.proofs.ByPlace.{both_at, old_at, only_at, few_read}
 use Rattle.mr_families.proofs.reading.get_in.Goals as goal

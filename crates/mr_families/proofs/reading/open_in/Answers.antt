@@ -1,4 +1,4 @@
-use Rattle.std.proofs.Common.{◌≡◌, ◌∙◌, List, set, IfOk, OnErr, sym, ap, subst}
+use Rattle.std.proofs.Common.{◌≡◌, ◌∙◌, List, IfOk, OnErr, ap, subst}
 use Rattle.std.proofs.lemmas.List.{get_or_read}
 use Rattle.mr_levels.specs.Opened.{IsOpened}
 use Rattle.mr_family.specs.Family.{FamilyState}

@@ -1,4 +1,4 @@
-use Rattle.std.proofs.Common.{◌≡◌, ◌+◌, ◌∙◌, ap}
+use Rattle.std.proofs.Common.{◌+◌, ◌∙◌, ap}
 use Rattle.mr_families.proofs.Needing.{counted, not_counted}
 use Rattle.mr_families.proofs.reserving.count_one.Goals as goal
 

@@ -1,4 +1,4 @@
-use Rattle.std.proofs.Common.{◌≡◌, ◌<◌, List, length, sym, ap, subst, arith}
+use Rattle.std.proofs.Common.{◌≡◌, ◌<◌, List, length, subst, arith}
 use Rattle.mr_families.specs.declared.numbered.Numbered.{Numbered}
 use Rattle.mr_families.specs.Known.{one_at}
 use Rattle.mr_families.specs.Rooms.{AreNeeds, HasRoom}

@@ -1,6 +1,5 @@
-use Rattle.std.proofs.Common.{◌≡◌, ◌==◌, ◌∙◌, not, length, List, sym, ap}
+use Rattle.std.proofs.Common.{◌==◌, ◌∙◌, not, length, sym, ap}
 use Rattle.mr_memtable.specs.Tables.{MemState}
-use Rattle.mr_family.specs.Family.{FamilyState}
 use Rattle.mr_families.proofs.Telling.{not_empty_opened, four_opened}
 use Rattle.mr_families.proofs.numbered.Numbered.open_run.Goals as goal
 
