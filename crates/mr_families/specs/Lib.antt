@@ -1,0 +1,4 @@
+pub mod Known
+pub mod Changed
+pub mod Batches
+pub mod Rooms
