@@ -17,4 +17,5 @@ pub use edit_read::read_edits;
 pub use edit_write::write_edits;
 pub use live::{Live, LiveRun, LiveRunList};
 pub use manifest::{MANIFEST_LIMIT, Manifest};
-pub use reading::{MANIFEST, peek};
+pub use reading::{MANIFEST, peek, read_manifest};
+pub use sum::Sum;

@@ -32,7 +32,7 @@ fn judge(sum: Sum, offence: Option<u64>) -> Result<Sum, Stop>
 
 /// What the records of the manifest add up to. The first damage is told: of the log, and else of a body, and else of the
 /// rule on numbers. Takes memory.
-pub(crate) fn read_manifest<D: Disk>(alloc: Global, disk: &mut D) -> Result<Sum, Stop>
+pub fn read_manifest<D: Disk>(alloc: Global, disk: &mut D) -> Result<Sum, Stop>
     ensures rises { Rises 0 (D.disk disk.old) (D.disk disk.new) }
     ensures failed { result ≡ Err Stop.Disk → HasRisen (D.disk disk.old).faults (D.disk disk.new).faults }
     ensures same { Tells (D.disk disk.old) → Same (D.disk disk.old) (D.disk disk.new) }

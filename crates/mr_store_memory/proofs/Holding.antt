@@ -1,5 +1,5 @@
 -- What keeps families beside what files say.
-use Rattle.std.proofs.Common.{◌≡◌, ◌≢◌, ◌⊎◌, ◌&&◌, ◌||◌, ◌==◌, ◌++◌, not, nat_lt, ℕ, ◌<◌, ◌≤◌, ◌^◌, Bool, true, false, if◌then◌else◌, is_some, List, [], ◌∷◌, length, Option, Some, None, refl, sym, ◌∙◌, ap, subst, inl, inr, arith}
+use Rattle.std.proofs.Common.{◌≡◌, ◌⊎◌, ◌&&◌, ◌||◌, ◌==◌, ◌++◌, not, nat_lt, ℕ, ◌<◌, ◌≤◌, ◌^◌, Bool, true, false, if◌then◌else◌, List, [], ◌∷◌, length, Option, Some, None, sym, ◌∙◌, ap, subst, inl, inr, arith}
 use Rattle.std.specs.List.{AllByRecursion}
 use Rattle.std.proofs.lemmas.Bool.{cases_Bool}
 use Rattle.std.proofs.lemmas.Bool.Decides.{nat_tests}
@@ -17,16 +17,16 @@ use Rattle.mr_manifest.specs.declared.live.LiveRun.{LiveRun}
 use Rattle.mr_engine_log.specs.declared.batched.Batched.{Batched}
 use Rattle.mr_family.specs.Family.{FamilyState, direction, versions}
 use Rattle.mr_families.specs.declared.numbered.Numbered.{Numbered}
-use Rattle.mr_families.specs.Known.{family_at, empty_family, is_empty}
-use Rattle.mr_families.specs.Changed.{without_room, SameButRooms}
-use Rattle.mr_families.specs.Batches.{is_on, with_operations, Takes, Added}
+use Rattle.mr_families.specs.Known.{family_at, is_empty}
+use Rattle.mr_families.specs.Changed.{without_room}
+use Rattle.mr_families.specs.Batches.{is_on, with_operations, Added}
 use Rattle.mr_stored.specs.Names.{family_key, record_of, is_name, is_named, direction_in, record_direction, names, named_direction, is_on_name, IsNaming}
-use Rattle.mr_stored.specs.Lists.{levels_of, with_batches, list_of, system_of, direction_of, versions_of, run_files, AreNamed, OperationsAreNamed}
+use Rattle.mr_stored.specs.Lists.{levels_of, with_batches, list_of, system_of, direction_of, versions_of, run_files, OperationsAreNamed}
 use Rattle.mr_stored.proofs.Batching.{with_batches-append, list_in_order, list_with_batch, batches_first}
 use Rattle.mr_stored.proofs.Naming.{on_name, on_key, still_named, named_after, record_after}
 use Rattle.mr_stored.proofs.Unnamed.{no_levels, no_batches, no_list}
 use Rattle.mr_stored.proofs.Kept.{levels_same, direction_same, system_same, named_same}
-use Rattle.mr_store_memory.specs.Held.{Held, AreTurned, turned}
+use Rattle.mr_store_memory.specs.Held.{Held, AreTurned}
 use Rattle.mr_store_memory.specs.Readied.{IsRelearnt, Readied, AreTurnedBy}
 use Rattle.mr_store_memory.proofs.Turning.{turned_named}
 
@@ -40,7 +40,7 @@ held_image ns i j runs bs same held = record {
   named = named_same i j runs same bs held.named;
   levels = λ f. held.levels f ∙ levels_same i j runs same (direction (family_at ns f)) f;
   memory = held.memory;
-  directions = λ f below named. held.directions f below (subst (λ (system : List Version). is_named system f ≡ true) (sym (system_same i j runs same bs)) named) ∙ direction_same i j runs same bs f
+  directions = λ f below named. held.directions f below (subst (λ (system : List Version). is_named system f ≡ true) (sym (system_same i j runs same bs)) named) ∙ direction_same i j runs same bs f;
 }
 
 -- ---- families that the batch makes ready
@@ -60,7 +60,7 @@ module _ (old new : List Numbered) (image : Image) (runs : List LiveRun) (bs : L
     named = held.named;
     levels = λ f. levels_at f (ready.each f);
     memory = λ f. memory_at f (ready.each f);
-    directions = λ f below named. directions_at f below named (ready.each f)
+    directions = λ f below named. directions_at f below named (ready.each f);
   }
     where
       Case : ℕ → Type 0
@@ -180,10 +180,13 @@ module _ (old new : List Numbered) (image : Image) (runs : List LiveRun) (bs : L
 
   own_named : (os : List Operation) → AllByRecursion (λ (o : Operation). (is_named before o.family || names o.family batch) ≡ true) os → OperationsAreNamed after os
   own_named [] all = tt
-  own_named (o ∷ os) all = (elim (cases_Bool (is_named before o.family)) [
-    | inl named ↦ still o.family named
-    | inr unnamed ↦ named_by_name o.family after (by_batch o.family (sym (ap (λ (b : Bool). b || names o.family batch) unnamed) ∙ all.0)).0
-  ], own_named os all.1)
+  own_named (o ∷ os) all = (
+    elim (cases_Bool (is_named before o.family)) [
+      | inl named ↦ still o.family named
+      | inr unnamed ↦ named_by_name o.family after (by_batch o.family (sym (ap (λ (b : Bool). b || names o.family batch) unnamed) ∙ all.0)).0
+    ],
+    own_named os all.1,
+  )
 
   -- the direction of a family that is named now
   direction_now : (f : ℕ) → f < 2 ^ 32 → is_named after f ≡ true → direction (family_at old f) ≡ direction_in after f
@@ -203,10 +206,10 @@ module _ (old new : List Numbered) (image : Image) (runs : List LiveRun) (bs : L
         | inl named ↦
             held.directions f small (named_by_name f before named) ∙ high_direction before high ∙ ap record_direction (sym (stays f named)) ∙ sym (high_direction after high)
         | inr unnamed ↦ elim (cases_Bool (names f batch)) [
-            | inl told ↦
-                turn f (grind (arith, nat_tests, high)) small told ∙ sym (by_batch f told).1 ∙ sym (high_direction after high)
-            | inr untold ↦ absurd (clash (still_unnamed unnamed untold) name)
-          ]
+          | inl told ↦
+              turn f (grind (arith, nat_tests, high)) small told ∙ sym (by_batch f told).1 ∙ sym (high_direction after high)
+          | inr untold ↦ absurd (clash (still_unnamed unnamed untold) name)
+        ]
       ]
         where
           still_unnamed : is_name (record_of f before) ≡ false → names f batch ≡ false → is_name (record_of f after) ≡ false
@@ -230,15 +233,15 @@ module _ (old new : List Numbered) (image : Image) (runs : List LiveRun) (bs : L
   held_after = record {
     named = record {
       of_runs = runs_named runs held.named.of_runs;
-      of_operations = each-append (λ (b : Batched). OperationsAreNamed after b.operations) bs (one ∷ []) (batches_named bs held.named.of_operations) (own_named batch naming.named, tt)
+      of_operations = each-append (λ (b : Batched). OperationsAreNamed after b.operations) bs (one ∷ []) (batches_named bs held.named.of_operations) (own_named batch naming.named, tt);
     };
     levels = λ f. (added.families f).levels ∙ held.levels f ∙ ap (λ (d : Direction). levels_of d f image runs) (sym (same_direction f));
     memory = λ f.
-      (added.families f).in_memory
-      ∙ ap (with_operations (direction (family_at old f)) f sequence batch) (held.memory f)
-      ∙ sym (with_batches-append (direction (family_at old f)) f bs (one ∷ []) [])
-      ∙ ap (λ (d : Direction). with_batches d f (bs ++ one ∷ []) []) (sym (same_direction f));
-    directions = λ f small is. same_direction f ∙ direction_now f small is
+        (added.families f).in_memory
+        ∙ ap (with_operations (direction (family_at old f)) f sequence batch) (held.memory f)
+        ∙ sym (with_batches-append (direction (family_at old f)) f bs (one ∷ []) [])
+        ∙ ap (λ (d : Direction). with_batches d f (bs ++ one ∷ []) []) (sym (same_direction f));
+    directions = λ f small is. same_direction f ∙ direction_now f small is;
   }
 
 pub held_added : (old new : List Numbered) (image : Image) (runs : List LiveRun) (bs : List Batched) (commit : Option ℕ) (sequence : ℕ) → sequence < 2 ^ 63 → (batch : List Operation) → IsNaming (system_of image runs bs) batch → AreTurned old batch → Held old image runs bs → Added sequence batch old new →

@@ -1,11 +1,11 @@
 -- Families in memory that have what the files say.
-use Rattle.std.specs.Prelude.{◌≡◌, ◌≤◌, ◌<◌, ◌^◌, ℕ, true, false, if◌then◌else◌, is_some, List, [], ◌∷◌, Option, Some, None}
+use Rattle.std.specs.Prelude.{◌≡◌, ◌≤◌, ◌<◌, ◌^◌, ℕ, true, if◌then◌else◌, is_some, List, [], ◌∷◌}
 use Rattle.mr_base.specs.Disk.{Image}
 use Rattle.mr_base.specs.declared.stop.Direction.{Direction}
 use Rattle.mr_wal.specs.declared.operation.Operation.{Operation}
 use Rattle.mr_manifest.specs.declared.live.LiveRun.{LiveRun}
 use Rattle.mr_engine_log.specs.declared.batched.Batched.{Batched}
-use Rattle.mr_family.specs.Family.{FamilyState, direction}
+use Rattle.mr_family.specs.Family.{direction}
 use Rattle.mr_families.specs.declared.numbered.Numbered.{Numbered}
 use Rattle.mr_families.specs.Known.{family_at}
 use Rattle.mr_families.specs.Batches.{is_on}
