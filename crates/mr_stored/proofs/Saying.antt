@@ -11,7 +11,7 @@ use Rattle.mr_manifest.specs.Manifest.{sum_of_file, judged, breach, state, sum_f
 use Rattle.mr_manifest.specs.Rule.{is_given, is_among, runs_fit, numbers_fit, drops_fit, log_fits}
 use Rattle.mr_engine_log.specs.Logged.{Logged, log_of}
 use Rattle.mr_stored.specs.Said.{Place, Said, ◌>>=◌, in_file, first_judged, manifest_sum, said, said_by, said_by_log, with_live}
-use Rattle.mr_stored.specs.Begun.{has_record, Says, IsApart, AreApart}
+use Rattle.mr_stored.specs.Begun.{has_record, Says, IsApart, AreApart, AreGiven}
 
 clash : {b : Bool} → b ≡ false → b ≡ true → ⊥
 clash low high = cc
@@ -161,3 +161,23 @@ says_apart image s says =
     let parts = said_parts image (manifest_sum image) s says.begun says.said_is in
     let read : sum_of_file (image 0) ≡ Ok parts.sum = first_passed (records_from 0 (image 0)) (sum_of_file (image 0)) parts.sum parts.sum_is in
     subst AreApart (sym parts.live) (fit_apart parts.sum (passed (if is_damaged_from 0 (image 0) then Err (Rattle.mr_gate.specs.Log.end_from 0 (image 0)) else sum_from no_records 0 (records_from 0 (image 0))) parts.sum parts.some read))
+
+-- ---- files that are given out
+
+runs_given : (live : Live) (runs : List LiveRun) → runs_fit live runs ≡ true → AllByRecursion (λ (run : LiveRun). run.file < live.next_file) runs
+runs_given live [] fit = tt
+runs_given live (run ∷ runs) fit =
+    let here = and_first (is_given live run.file && (not (run.file == live.log) && not (is_among run.file runs))) (runs_fit live runs) fit in
+    let given = and_first (is_given live run.file) (not (run.file == live.log) && not (is_among run.file runs)) here in
+    (grind (arith, nat_tests, and_second (nat_lt 15 run.file) (nat_lt run.file live.next_file) given), runs_given live runs (and_second (is_given live run.file && (not (run.file == live.log) && not (is_among run.file runs))) (runs_fit live runs) fit))
+
+fit_given : (s : Sum) → numbers_fit s.live s.before s.last ≡ true → AreGiven s.live
+fit_given s fit =
+    let rest = and_second (is_given s.live s.live.log) (runs_fit s.live s.live.runs && (drops_fit s.live s.last && log_fits s.live s.before)) fit in
+    runs_given s.live s.live.runs (and_first (runs_fit s.live s.live.runs) (drops_fit s.live s.last && log_fits s.live s.before) rest)
+
+pub says_given : (image : Image) (s : Said) → Says image s → AreGiven s.live
+says_given image s says =
+    let parts = said_parts image (manifest_sum image) s says.begun says.said_is in
+    let read : sum_of_file (image 0) ≡ Ok parts.sum = first_passed (records_from 0 (image 0)) (sum_of_file (image 0)) parts.sum parts.sum_is in
+    subst AreGiven (sym parts.live) (fit_given parts.sum (passed (if is_damaged_from 0 (image 0) then Err (Rattle.mr_gate.specs.Log.end_from 0 (image 0)) else sum_from no_records 0 (records_from 0 (image 0))) parts.sum parts.some read))

@@ -23,3 +23,7 @@ IsApart live run = (15 < run.file) × (run.file ≢ live.log)
 pub record AreApart (live : Live) : Type 0 where
   pub log : 15 < live.log
   pub runs : AllByRecursion (IsApart live) live.runs
+
+-- the live runs' files have numbers that are given out
+abbrev pub AreGiven : Live → Type 0
+AreGiven live = AllByRecursion (λ (run : LiveRun). run.file < live.next_file) live.runs
