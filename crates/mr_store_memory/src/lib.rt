@@ -1,4 +1,2 @@
 //! Families in memory beside what the files of a store say.
 #![tactic(auto)]
-mod readying;
-pub use readying::make_ready;
