@@ -1,2 +1,4 @@
 //! Families in memory beside what the files of a store say.
 #![tactic(auto)]
+
+mod naming;
