@@ -1,3 +1,4 @@
 pub mod Turning
 pub mod Holding
 mod Keys
+mod Named

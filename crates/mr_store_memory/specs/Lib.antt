@@ -1,3 +1,4 @@
 pub mod Held
 pub mod Readied
 pub mod ByName
+pub mod Knows

@@ -2,3 +2,6 @@
 #![tactic(auto)]
 
 mod naming;
+mod readying;
+
+pub use readying::make_ready;
