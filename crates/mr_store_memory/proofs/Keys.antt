@@ -1,18 +1,12 @@
 -- Keys of the records that name families.
-use Rattle.std.proofs.Common.{◌≡◌, ◌==◌, ◌&&◌, ℕ, zero, suc, ◌+◌, ◌<◌, ◌≤◌, ◌^◌, if◌then◌else◌, Bool, true, false, nat_eq, is_some, List, [], ◌∷◌, ◌++◌, length, take, drop, get_or, Option, Some, None, Fits, w8, w32, refl, sym, ◌∙◌, ap, subst, inl, inr, arith}
-use Rattle.std.specs.Int.{from_be_bytes}
+use Rattle.std.proofs.Common.{◌≡◌, ◌==◌, ◌&&◌, ℕ, ◌+◌, ◌<◌, ◌≤◌, ◌^◌, if◌then◌else◌, Bool, true, false, nat_eq, List, [], ◌∷◌, ◌++◌, length, take, drop, get_or, Option, Some, None, refl, sym, ◌∙◌, ap, subst, arith}
 use Rattle.std.specs.Cmp.Lexicographic.{pointwise}
-use Rattle.std.proofs.lemmas.Bool.{cases_Bool}
 use Rattle.std.proofs.lemmas.Bool.Decides.{nat_tests}
 use Rattle.std.proofs.lemmas.Nat.{be_bytes_4}
 use Rattle.std.proofs.lemmas.List.{append-nil, get_or-drop, length-drop, take-append-drop}
 use Rattle.byteorder.specs.Endian.{big_bytes, big_number}
 use Rattle.byteorder.specs.Numbers.{big_from-lt, big_number-reads_back}
-use Rattle.mr_base.specs.declared.stop.Direction.{Direction}
-use Rattle.mr_wal.specs.declared.operation.Operation.{Operation}
-use Rattle.mr_families.specs.Batches.{is_on}
 use Rattle.mr_stored.specs.Names.{family_kind, family_key}
-use Rattle.mr_stored.proofs.Naming.{on_key}
 use Rattle.mr_store_memory.specs.ByName.{number_in, IsKeyOf}
 
 some_is : {m n : ℕ} → Some m ≡ Some n → m ≡ n

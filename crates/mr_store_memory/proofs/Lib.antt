@@ -2,3 +2,4 @@ pub mod Turning
 pub mod Holding
 mod Keys
 mod Named
+mod Others

@@ -1,18 +1,16 @@
 -- Families before and after their names are learnt, one operation after the other.
-use Rattle.std.proofs.Common.{◌≡◌, ◌⊎◌, ◌==◌, ◌&&◌, ℕ, ◌+◌, ◌<◌, ◌≤◌, ◌^◌, Bool, true, false, not, if◌then◌else◌, is_some, List, [], ◌∷◌, ◌++◌, length, get_or, take, drop, Option, Some, None, Result, Ok, Err, OnOk, OnErr, refl, sym, ◌∙◌, ap, subst, inl, inr, arith}
+use Rattle.std.proofs.Common.{◌≡◌, ◌⊎◌, ◌==◌, ◌&&◌, ℕ, ◌+◌, ◌<◌, ◌≤◌, ◌^◌, Bool, true, false, not, if◌then◌else◌, is_some, List, [], ◌∷◌, ◌++◌, length, get_or, take, drop, Result, Ok, Err, OnOk, OnErr, refl, sym, ◌∙◌, ap, subst, inl, inr, arith}
 use Rattle.std.proofs.lemmas.Bool.{cases_Bool}
 use Rattle.std.proofs.lemmas.Bool.Decides.{nat_tests}
 use Rattle.std.proofs.lemmas.Grind.{common_steps}
-use Rattle.std.proofs.lemmas.List.{take-append-drop, take_all}
-use Rattle.mr_base.specs.Disk.{Image}
+use Rattle.std.proofs.lemmas.List.{append-nil, take-append-drop, take_all}
 use Rattle.mr_base.specs.declared.stop.Direction.{Direction}
 use Rattle.mr_iter.specs.Children.{AnyOf}
 use Rattle.mr_wal.specs.declared.operation.Operation.{Operation}
-use Rattle.mr_levels.specs.Levels.{LevelsState}
 use Rattle.mr_family.specs.Family.{FamilyState, direction, versions}
 use Rattle.mr_families.specs.declared.numbered.Numbered.{Numbered}
 use Rattle.mr_families.specs.Known.{family_at, empty_family, is_empty}
-use Rattle.mr_families.specs.Changed.{is_same, learnt, Learnt, without_room}
+use Rattle.mr_families.specs.Changed.{is_same, Learnt, without_room}
 use Rattle.mr_families.specs.Batches.{is_on}
 use Rattle.mr_stored.specs.Names.{family_key, put_direction}
 use Rattle.mr_stored.proofs.Naming.{on_key}
@@ -21,7 +19,7 @@ use Rattle.mr_store_memory.specs.Readied.{IsRelearnt, Readied, AreTurnedBy}
 use Rattle.mr_store_memory.specs.ByName.{IsName, IsNoName}
 use Rattle.mr_store_memory.proofs.Keys.{same_number}
 
-same_of : (m n : ℕ) → (m == n) ≡ true → m ≡ n
+pub same_of : (m n : ℕ) → (m == n) ≡ true → m ≡ n
 same_of m n is = grind (arith, nat_tests)
 
 any_front : {X : Type 0} (P : X → Type 0) (xs ys : List X) → AnyOf P xs → AnyOf P (xs ++ ys)
@@ -82,6 +80,10 @@ readied_rooms os a b same = record { each = λ f. inl (same f); versions_are = �
 pub readied_same : (os : List Operation) (a : List Numbered) → Readied os a a
 readied_same os a = readied_rooms os a a (λ f. refl)
 
+-- a part behind that changes nothing but rooms
+pub readied_kept : (os : List Operation) (a b c : List Numbered) → Readied os a b → ((f : ℕ) → without_room (family_at c f) ≡ without_room (family_at b f)) → Readied os a c
+readied_kept os a b c ready same = subst (λ (ps : List Operation). Readied ps a c) (append-nil os) (readied_then os [] a b c ready (readied_rooms [] b c same))
+
 -- a front of the batch
 pub readied_front : (os ps : List Operation) (a b : List Numbered) → Readied os a b → Readied (os ++ ps) a b
 readied_front os ps a b ready = readied_then os ps a b b ready (readied_same ps b)
@@ -97,8 +99,9 @@ turned_then os ps a b c ready first second f far small empty =
     ∙ sym (turned-append f os ps (direction (family_at a f)))
 
 -- where nothing but rooms changes, no direction does
-pub turned_rooms : (os : List Operation) (a b c : List Numbered) → ((f : ℕ) → without_room (family_at c f) ≡ without_room (family_at b f)) → AreTurnedBy os a b → AreTurnedBy os a c
-turned_rooms os a b c same by f far small empty = ap (λ (s : FamilyState). direction s) (same f) ∙ by f far small empty
+pub turned_kept : {A E : Type 0} (r : Result A E) (os : List Operation) (a b c : List Numbered) → ((f : ℕ) → without_room (family_at c f) ≡ without_room (family_at b f)) → AreTurnedBy os a b → OnOk r (AreTurnedBy os a c)
+turned_kept (Ok u) os a b c same by = λ f far small empty. ap direction (same f) ∙ by f far small empty
+turned_kept (Err e) os a b c same by = tt
 
 -- ---- one operation
 

@@ -11,12 +11,8 @@ use mr_families::Families;
 use mr_wal::Operation;
 use std::alloc::Global;
 
-/// Gives the family that an operation names its direction, where it names one. Takes memory; after an error nothing has changed.
-fn learn_name(
-    alloc: Global,
-    families: &mut Families,
-    operation: &Operation,
-) -> Result<(), Memory>
+/// Gives the family that an operation names its direction, where it names one. Takes memory.
+fn learn_name(alloc: Global, families: &mut Families, operation: &Operation) -> Result<(), Memory>
     ensures readied { Readied (operation.now ∷ []) families.old families.new }
     ensures turned { OnOk result (AreTurnedBy (operation.now ∷ []) families.old families.new) }
 {
@@ -27,11 +23,7 @@ fn learn_name(
 }
 
 /// Gives each family that a batch names its direction. Takes memory.
-fn learn_names(
-    alloc: Global,
-    families: &mut Families,
-    batch: &[Operation],
-) -> Result<(), Memory>
+fn learn_names(alloc: Global, families: &mut Families, batch: &[Operation]) -> Result<(), Memory>
     ensures readied { Readied batch.now families.old families.new }
     ensures turned { OnOk result (AreTurnedBy batch.now families.old families.new) }
 {
@@ -53,11 +45,7 @@ fn learn_number(alloc: Global, families: &mut Families, number: u32) -> Result<(
 }
 
 /// Makes the families of a batch known. Takes memory.
-fn learn_others(
-    alloc: Global,
-    families: &mut Families,
-    batch: &[Operation],
-) -> Result<(), Memory>
+fn learn_others(alloc: Global, families: &mut Families, batch: &[Operation]) -> Result<(), Memory>
     ensures same { (f : ℕ) → family_at families.new f ≡ family_at families.old f }
     ensures known { OnOk result (AreKnown families.new batch.now) }
 {
@@ -69,11 +57,7 @@ fn learn_others(
 
 /// Makes the families of a batch ready for it: those that it names have their direction, the others are known, and there is room. Takes
 /// memory; after an error no family has other versions.
-pub fn make_ready(
-    alloc: Global,
-    families: &mut Families,
-    batch: &[Operation],
-) -> Result<(), Memory>
+pub fn make_ready(alloc: Global, families: &mut Families, batch: &[Operation]) -> Result<(), Memory>
     ensures readied { Readied batch.now families.old families.new }
     ensures turned { OnOk result (AreTurnedBy batch.now families.old families.new) }
     ensures awaited { OnOk result (AreAwaited families.new batch.now) }
