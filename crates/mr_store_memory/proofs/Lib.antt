@@ -1,2 +1,5 @@
 pub mod Turning
 pub mod Holding
+mod Keys
+mod Named
+mod Others

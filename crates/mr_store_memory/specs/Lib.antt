@@ -1,2 +1,4 @@
 pub mod Held
 pub mod Readied
+pub mod ByName
+pub mod Knows

@@ -1,2 +1,7 @@
 //! Families in memory beside what the files of a store say.
 #![tactic(auto)]
+
+mod naming;
+mod readying;
+
+pub use readying::make_ready;
