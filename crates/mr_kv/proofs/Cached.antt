@@ -81,9 +81,9 @@ module _ (law : (r : RunState) (image : Image) → HasIndex r image → IsGaples
   gapless kv image holds f =
       let d = direction (family_at kv.families f) in
       subst (λ (l : LevelsState). AreGapless (runs_by_level l)) (sym (holds.held.levels f))
-        (of_runs IsGapless (levels_of d f image kv.manifest.live.runs)
-          (of_levels IsGapless d f image kv.manifest.live.runs
-            (each_weaker (IsJudged image) (λ (run : LiveRun). IsGapless (opened (info_of run) d (index_in image run))) (λ run judged. law (opened (info_of run) d (index_in image run)) image judged) kv.manifest.live.runs (runs_are_judged image kv.manifest.live.runs holds.judged))))
+      (of_runs IsGapless (levels_of d f image kv.manifest.live.runs)
+      (of_levels IsGapless d f image kv.manifest.live.runs
+      (each_weaker (IsJudged image) (λ (run : LiveRun). IsGapless (opened (info_of run) d (index_in image run))) (λ run judged. law (opened (info_of run) d (index_in image run)) image judged) kv.manifest.live.runs (runs_are_judged image kv.manifest.live.runs holds.judged))))
 
 -- ---- files that no family reads
 
@@ -95,10 +95,10 @@ pub not_read : (kv : KvState) (image : Image) → Holds kv image → (f file : �
 not_read kv image holds f file le =
     let d = direction (family_at kv.families f) in
     not_among file (runs_by_level (family_at kv.families f).levels)
-      (subst (λ (l : LevelsState). AllByRecursion (λ (r : RunState). file ≢ r.file) (runs_by_level l)) (sym (holds.held.levels f))
-        (of_runs (λ (r : RunState). file ≢ r.file) (levels_of d f image kv.manifest.live.runs)
-          (of_levels (λ (r : RunState). file ≢ r.file) d f image kv.manifest.live.runs
-            (each_weaker (λ (run : LiveRun). run.file < kv.manifest.live.next_file) (λ (run : LiveRun). file ≢ run.file) (λ run given is. too_great run.file kv.manifest.live.next_file file given le is) kv.manifest.live.runs (says_given image (record { live = kv.manifest.live; logged = holds.logged }) holds.says)))))
+    (subst (λ (l : LevelsState). AllByRecursion (λ (r : RunState). file ≢ r.file) (runs_by_level l)) (sym (holds.held.levels f))
+    (of_runs (λ (r : RunState). file ≢ r.file) (levels_of d f image kv.manifest.live.runs)
+    (of_levels (λ (r : RunState). file ≢ r.file) d f image kv.manifest.live.runs
+    (each_weaker (λ (run : LiveRun). run.file < kv.manifest.live.next_file) (λ (run : LiveRun). file ≢ run.file) (λ run given is. too_great run.file kv.manifest.live.next_file file given le is) kv.manifest.live.runs (says_given image (record { live = kv.manifest.live; logged = holds.logged }) holds.says)))))
   where
     too_great : (n next file : ℕ) → n < next → next ≤ file → file ≡ n → ⊥
     too_great n next file lt le is = omega (arith, lt, le, is)
@@ -117,11 +117,11 @@ holds_got kv image holds number ns only memtable levels true_to unread = record 
     named = holds.held.named;
     levels = λ f. same_levels f ∙ holds.held.levels f ∙ ap (λ (l : LevelsState). levels_of l.direction f image kv.manifest.live.runs) (sym (same_levels f));
     memory = λ f. same_memory f ∙ holds.held.memory f ∙ ap (λ (l : LevelsState). with_batches l.direction f (after_verdict kv.log.verdict holds.logged).batches []) (sym (same_levels f));
-    directions = λ f below named. ap (λ (l : LevelsState). l.direction) (same_levels f) ∙ holds.held.directions f below named
+    directions = λ f below named. ap (λ (l : LevelsState). l.direction) (same_levels f) ∙ holds.held.directions f below named;
   };
   judged = holds.judged;
   cached = λ f. at_each (λ (g : ℕ) (s : FamilyState). IsTrueTo image s) f true_to (holds.cached f);
-  unread = λ f file bytes le. at_each (λ (g : ℕ) (s : FamilyState). AgreesWith file bytes s.cached) f (unread file bytes le (holds.unread number file bytes le)) (holds.unread f file bytes le)
+  unread = λ f file bytes le. at_each (λ (g : ℕ) (s : FamilyState). AgreesWith file bytes s.cached) f (unread file bytes le (holds.unread number file bytes le)) (holds.unread f file bytes le);
 }
   where
     at_each : (P : ℕ → FamilyState → Type 0) (f : ℕ) → P number (family_at ns number) → P f (family_at kv.families f) → P f (family_at ns f)

@@ -96,10 +96,10 @@ true_in i j ns runs bs same held f true_to =
     let s = family_at ns f in
     let d = direction s in
     let alike : AllByRecursion (λ (r : RunState). i r.file ≡ j r.file) (runs_by_level s.levels) =
-          subst (λ (l : LevelsState). AllByRecursion (λ (r : RunState). i r.file ≡ j r.file) (runs_by_level l)) (sym (held.levels f))
-            (of_runs (λ (r : RunState). i r.file ≡ j r.file) (levels_of d f i runs) (of_levels (λ (r : RunState). i r.file ≡ j r.file) d f i runs (each_same i j runs same))) in
+    subst (λ (l : LevelsState). AllByRecursion (λ (r : RunState). i r.file ≡ j r.file) (runs_by_level l)) (sym (held.levels f))
+    (of_runs (λ (r : RunState). i r.file ≡ j r.file) (levels_of d f i runs) (of_levels (λ (r : RunState). i r.file ≡ j r.file) d f i runs (each_same i j runs same))) in
     both (λ (r : RunState). i r.file ≡ j r.file) (λ (r : RunState). AgreesWith r.file (i r.file) s.cached) (λ (r : RunState). AgreesWith r.file (j r.file) s.cached) (runs_by_level s.levels)
-      (λ r e agrees. subst (λ (bytes : List ℕ). AgreesWith r.file bytes s.cached) e agrees) alike true_to
+    (λ r e agrees. subst (λ (bytes : List ℕ). AgreesWith r.file bytes s.cached) e agrees) alike true_to
 
 -- ---- families that are made ready, and have a batch
 
@@ -155,7 +155,7 @@ module _ (first : (d : _) (v : Version) (vs : List Version) (more : List (List V
         let reads : log_of kv.log.base (i kv.log.gate.file) ≡ Ok holds.logged = log.reads ∙ ap (λ (l : Logged). Ok l) log_same in
         let after = has kv.log.base holds.logged reads due_now in
         says_with i j (said_of kv holds.logged) (applied (record_of kv.log body) holds.logged) manifest_same holds.says
-          (ap (λ (f : ℕ). log_of live.last_sequence (j f)) (sym file) ∙ ap (λ (b : ℕ). log_of b (j kv.log.gate.file)) (sym base) ∙ after)
+        (ap (λ (f : ℕ). log_of live.last_sequence (j f)) (sym file) ∙ ap (λ (b : ℕ). log_of b (j kv.log.gate.file)) (sym base) ∙ after)
 
     -- where families have the batches that count now
     pub holds_now : (log' : LogState) (ns : List Numbered) → (held : Held ns i live.runs (after_verdict log'.verdict (applied (record_of kv.log body) holds.logged)).batches) → ((f : ℕ) → IsTrueTo i (family_at ns f)) → AreUnread live.next_file ns → Holds (record { manifest = kv.manifest; log = log'; families = ns }) j
@@ -165,7 +165,7 @@ module _ (first : (d : _) (v : Version) (vs : List Version) (more : List (List V
       held = held_image ns i j live.runs (after_verdict log'.verdict (applied (record_of kv.log body) holds.logged)).batches runs_same held;
       judged = sym (judged_same i j live.runs runs_same manifest_same) ∙ holds.judged;
       cached = λ f. true_in i j ns live.runs (after_verdict log'.verdict (applied (record_of kv.log body) holds.logged)).batches runs_same held f (true_to f);
-      unread = unread
+      unread = unread;
     }
 
     naming_is : (batch : List Operation) → IsNaming (system kv i) batch → IsNaming (system_of i live.runs before.batches) batch
@@ -177,8 +177,8 @@ module _ (first : (d : _) (v : Version) (vs : List Version) (more : List (List V
       (log' : LogState) → log'.verdict ≡ 0 → (ns : List Numbered) → HasBatch sequence batch kv.families ns → Holds (record { manifest = kv.manifest; log = log'; families = ns }) j
   holds_written kv i j file base log holds nothing same sequence below batch has naming log' verdict ns batched =
       holds_now kv i j file base log holds nothing same (Plain sequence batch) has log' ns held
-        true_after
-        (λ f at bytes le. subst (λ (cs : List CachedBlock). AgreesWith at bytes cs) (sym (batched.added.families f).cached) (readied_unread f batch at bytes (family_at kv.families f) (family_at batched.between f) (batched.made.readied.each f) (holds.unread f at bytes le)))
+      true_after
+      (λ f at bytes le. subst (λ (cs : List CachedBlock). AgreesWith at bytes cs) (sym (batched.added.families f).cached) (readied_unread f batch at bytes (family_at kv.families f) (family_at batched.between f) (batched.made.readied.each f) (holds.unread f at bytes le)))
     where
       named : IsNaming (system_of i kv.manifest.live.runs (counting kv holds.logged)) batch
       named = naming_is kv i j file base log holds nothing same (Plain sequence batch) has batch naming
@@ -197,7 +197,7 @@ module _ (first : (d : _) (v : Version) (vs : List Version) (more : List (List V
       true_after f =
           let mid = readied_true f batch i (family_at kv.families f) (family_at batched.between f) (batched.made.readied.each f) (holds.cached f) in
           subst (λ (l : LevelsState). AgreeWith i (family_at ns f).cached (runs_by_level l)) (sym (batched.added.families f).levels)
-            (subst (λ (cs : List CachedBlock). AgreeWith i cs (runs_by_level (family_at batched.between f).levels)) (sym (batched.added.families f).cached) mid)
+          (subst (λ (cs : List CachedBlock). AgreeWith i cs (runs_by_level (family_at batched.between f).levels)) (sym (batched.added.families f).cached) mid)
 
   -- a batch that is pending
   pub holds_prepared : (kv : KvState) (i j : Image) (file : kv.log.gate.file ≡ kv.manifest.live.log) (base : kv.log.base ≡ kv.manifest.live.last_sequence) (log : LogHolds kv.log (i kv.log.gate.file)) (holds : Holds kv i) (nothing : kv.log.pending ≡ None) (same : SameBut kv.log.gate.file i j) →
@@ -205,8 +205,8 @@ module _ (first : (d : _) (v : Version) (vs : List Version) (more : List (List V
       (log' : LogState) → log'.verdict ≡ 0 → (ns : List Numbered) → IsMadeReady batch kv.families ns → Holds (record { manifest = kv.manifest; log = log'; families = ns }) j
   holds_prepared kv i j file base log holds nothing same k sequence batch has naming log' verdict ns made =
       holds_now kv i j file base log holds nothing same (Prepare k sequence batch) has log' ns held
-        (λ f. readied_true f batch i (family_at kv.families f) (family_at ns f) (made.readied.each f) (holds.cached f))
-        (λ f at bytes le. readied_unread f batch at bytes (family_at kv.families f) (family_at ns f) (made.readied.each f) (holds.unread f at bytes le))
+      (λ f. readied_true f batch i (family_at kv.families f) (family_at ns f) (made.readied.each f) (holds.cached f))
+      (λ f at bytes le. readied_unread f batch at bytes (family_at kv.families f) (family_at ns f) (made.readied.each f) (holds.unread f at bytes le))
     where
       named : IsNaming (system_of i kv.manifest.live.runs (counting kv holds.logged)) batch
       named = naming_is kv i j file base log holds nothing same (Prepare k sequence batch) has batch naming
@@ -265,10 +265,10 @@ module _ (first : (d : _) (v : Version) (vs : List Version) (more : List (List V
       logged = holds.logged;
       says = holds.says;
       held = subst (Held ns i kv.manifest.live.runs) (sym counted_now)
-        (held_added kv.families ns i kv.manifest.live.runs (counting kv holds.logged) (Some p.commit) p.sequence below p.operations (subst (λ (vs : List Version). IsNaming vs p.operations) (system_is kv i holds) naming) turn holds.held added);
+          (held_added kv.families ns i kv.manifest.live.runs (counting kv holds.logged) (Some p.commit) p.sequence below p.operations (subst (λ (vs : List Version). IsNaming vs p.operations) (system_is kv i holds) naming) turn holds.held added);
       judged = holds.judged;
       cached = true_after;
-      unread = λ f at bytes le. subst (λ (cs : List CachedBlock). AgreesWith at bytes cs) (sym (added.families f).cached) (holds.unread f at bytes le)
+      unread = λ f at bytes le. subst (λ (cs : List CachedBlock). AgreesWith at bytes cs) (sym (added.families f).cached) (holds.unread f at bytes le);
     }
       where
         counted_now : decided 1 holds.logged.pending holds.logged.batches ≡ counting kv holds.logged ++ record { commit = Some p.commit; sequence = p.sequence; operations = p.operations } ∷ []
@@ -279,7 +279,7 @@ module _ (first : (d : _) (v : Version) (vs : List Version) (more : List (List V
         true_after : (f : ℕ) → IsTrueTo i (family_at ns f)
         true_after f =
             subst (λ (l : LevelsState). AgreeWith i (family_at ns f).cached (runs_by_level l)) (sym (added.families f).levels)
-              (subst (λ (cs : List CachedBlock). AgreeWith i cs (runs_by_level (family_at kv.families f).levels)) (sym (added.families f).cached) (holds.cached f))
+            (subst (λ (cs : List CachedBlock). AgreeWith i cs (runs_by_level (family_at kv.families f).levels)) (sym (added.families f).cached) (holds.cached f))
 
     pub holds_abandoned : Holds (record { manifest = kv.manifest; log = with_verdict 2 kv.log; families = kv.families }) i
     holds_abandoned = record {
@@ -288,5 +288,5 @@ module _ (first : (d : _) (v : Version) (vs : List Version) (more : List (List V
       held = subst (Held kv.families i kv.manifest.live.runs) (sym (ap (λ (o : Option Prepared). decided 2 o holds.logged.batches) one_pending.1) ∙ refl) (subst (Held kv.families i kv.manifest.live.runs) counted_before holds.held);
       judged = holds.judged;
       cached = holds.cached;
-      unread = holds.unread
+      unread = holds.unread;
     }

@@ -41,10 +41,10 @@ module _ (r : WalRecord) (file : ℕ) (old : State) (s : Said) (says : Says (see
     files = one.files;
     output = one.output;
     left = λ image leaves t says_t is_due.
-      let same_said : s ≡ t = one_said (seen old) s t says says_t in
-      let zero : seen old 0 ≡ image 0 = sym (rest0 (image 0) (subst (λ (f : File). MayLeave f (image 0)) (one.files 0 (λ is. apart_from_manifest (seen old) s says (is ∙ log))) (leaves 0))) in
-      subst (λ (u : Said). Says image u ⊎ Says image (with_record r u)) same_said
-        (by_record image zero (one.left (image file) (leaves file) rest) (subst (λ (u : Said). IsDue r u.logged) (sym same_said) is_due))
+        let same_said : s ≡ t = one_said (seen old) s t says says_t in
+        let zero : seen old 0 ≡ image 0 = sym (rest0 (image 0) (subst (λ (f : File). MayLeave f (image 0)) (one.files 0 (λ is. apart_from_manifest (seen old) s says (is ∙ log))) (leaves 0))) in
+        subst (λ (u : Said). Says image u ⊎ Says image (with_record r u)) same_said
+        (by_record image zero (one.left (image file) (leaves file) rest) (subst (λ (u : Said). IsDue r u.logged) (sym same_said) is_due));
   }
 
 pub writes : (r : WalRecord) (file : ℕ) (old new : State) (s : Said) → Says (seen old) s → file ≡ s.live.log → Records r file old new → Writes r file old new
@@ -56,8 +56,8 @@ writes_none r file old s says log rest0 rest = started old (MayHaveSaid r file o
   files = λ other apart. refl;
   output = refl;
   left = λ image leaves t says_t is_due.
-    let same_said : s ≡ t = one_said (seen old) s t says says_t in
-    let zero : seen old 0 ≡ image 0 = sym (rest0 (image 0) (leaves 0)) in
-    let own : seen old file ≡ image file = sym (rest (image file) (leaves file)) in
-    inl (subst (Says image) same_said (says_same (seen old) image s zero (ap (seen old) (sym log) ∙ own ∙ ap image log) says))
+      let same_said : s ≡ t = one_said (seen old) s t says says_t in
+      let zero : seen old 0 ≡ image 0 = sym (rest0 (image 0) (leaves 0)) in
+      let own : seen old file ≡ image file = sym (rest (image file) (leaves file)) in
+      inl (subst (Says image) same_said (says_same (seen old) image s zero (ap (seen old) (sym log) ∙ own ∙ ap image log) says));
 })

@@ -52,8 +52,8 @@ module _ (first : (d : _) (v : Version) (vs : List Version) (more : List (List V
     awaits = tt;
     turned = λ is. tt;
     holds = λ is.
-      let before = told is in
-      holds_written first kv (seen s) (seen t) ready.file ready.base (ready.log.holds before) (ready.holds before) nothing (same before) sequence below batch (has before) (naming before) (with_record n None sequence kv.log) refl ns batched
+        let before = told is in
+        holds_written first kv (seen s) (seen t) ready.file ready.base (ready.log.holds before) (ready.holds before) nothing (same before) sequence below batch (has before) (naming before) (with_record n None sequence kv.log) refl ns batched;
   }
 
   pub ready_prepared : (n k sequence : ℕ) → sequence < 2 ^ 63 → (batch : List Operation) → (Tells s → IsNaming (system kv (seen s)) batch) → (Tells s → HasRecord (record_of kv.log (Prepare k sequence batch)) (seen s kv.log.gate.file) (seen t kv.log.gate.file)) →
@@ -67,8 +67,8 @@ module _ (first : (d : _) (v : Version) (vs : List Version) (more : List (List V
     awaits = (below, awaited);
     turned = λ is now. turned_prepared first kv (seen s) (ready.holds (told is)) batch ns made (naming (told is));
     holds = λ is.
-      let before = told is in
-      holds_prepared first kv (seen s) (seen t) ready.file ready.base (ready.log.holds before) (ready.holds before) nothing (same before) k sequence batch (has before) (naming before) (with_record n (Some (prepared k sequence batch)) sequence kv.log) refl ns made
+        let before = told is in
+        holds_prepared first kv (seen s) (seen t) ready.file ready.base (ready.log.holds before) (ready.holds before) nothing (same before) k sequence batch (has before) (naming before) (with_record n (Some (prepared k sequence batch)) sequence kv.log) refl ns made;
   }
 
   pub ready_settled : (n : ℕ) → (Tells s → HasRecord (record_of kv.log Decided) (seen s kv.log.gate.file) (seen t kv.log.gate.file)) →
@@ -82,8 +82,8 @@ module _ (first : (d : _) (v : Version) (vs : List Version) (more : List (List V
     awaits = tt;
     turned = λ is. tt;
     holds = λ is.
-      let before = told is in
-      holds_settled first kv (seen s) (seen t) ready.file ready.base (ready.log.holds before) (ready.holds before) nothing (same before) (has before) (with_record n None kv.log.last kv.log) refl
+        let before = told is in
+        holds_settled first kv (seen s) (seen t) ready.file ready.base (ready.log.holds before) (ready.holds before) nothing (same before) (has before) (with_record n None kv.log.last kv.log) refl;
   }
 
 -- ---- verdicts in memory
@@ -101,9 +101,9 @@ module _ (first : (d : _) (v : Version) (vs : List Version) (more : List (List V
         awaits = tt;
         turned = λ is. tt;
         holds = λ is.
-          let named : IsNaming (system kv (seen s)) p.operations = subst (λ (o : Option Prepared). IfSome o (λ q. IsNaming (system kv (seen s)) q.operations)) pending (naming is) in
-          let turn : AreTurned kv.families p.operations = subst (λ (o : Option Prepared). IfSome o (λ q. IsNaming (system kv (seen s)) q.operations → AreTurned kv.families q.operations)) pending (ready.turned is) named in
-          holds_decided first kv (seen s) ready.file ready.base (ready.log.holds is) (ready.holds is) p pending awaits.0 named turn ns added
+            let named : IsNaming (system kv (seen s)) p.operations = subst (λ (o : Option Prepared). IfSome o (λ q. IsNaming (system kv (seen s)) q.operations)) pending (naming is) in
+            let turn : AreTurned kv.families p.operations = subst (λ (o : Option Prepared). IfSome o (λ q. IsNaming (system kv (seen s)) q.operations → AreTurned kv.families q.operations)) pending (ready.turned is) named in
+            holds_decided first kv (seen s) ready.file ready.base (ready.log.holds is) (ready.holds is) p pending awaits.0 named turn ns added;
       }
 
   pub ready_abandoned : (p : Prepared) → kv.log.pending ≡ Some p → LogIsReady (with_verdict 2 kv.log) s → IsReady (record { manifest = kv.manifest; log = with_verdict 2 kv.log; families = kv.families }) s
@@ -115,7 +115,7 @@ module _ (first : (d : _) (v : Version) (vs : List Version) (more : List (List V
     base = ready.base;
     awaits = tt;
     turned = λ is. tt;
-    holds = λ is. holds_abandoned first kv (seen s) ready.file ready.base (ready.log.holds is) (ready.holds is) p pending
+    holds = λ is. holds_abandoned first kv (seen s) ready.file ready.base (ready.log.holds is) (ready.holds is) p pending;
   }
 
 -- ---- look-ups
@@ -152,7 +152,7 @@ module _ (kv : KvState) (s t : State) (ready : IsReady kv s) (tells : t.tells �
   awaited_stay os awaited = record {
     known = known_stays os awaited.known;
     entries = λ f. subst (λ (m : MemState). entries_for f os ≤ m.entries) (sym (same_memtable f)) (awaited.entries f);
-    bytes = λ f. subst (λ (m : MemState). bytes_for f os ≤ m.bytes) (sym (same_memtable f)) (awaited.bytes f)
+    bytes = λ f. subst (λ (m : MemState). bytes_for f os ≤ m.bytes) (sym (same_memtable f)) (awaited.bytes f);
   }
 
   awaits_stay : (o : Option Prepared) → IfSome o (λ p. (p.sequence < 2 ^ 63) × AreAwaited kv.families p.operations) → IfSome o (λ p. (p.sequence < 2 ^ 63) × AreAwaited ns p.operations)
@@ -172,7 +172,7 @@ module _ (kv : KvState) (s t : State) (ready : IsReady kv s) (tells : t.tells �
   log_stays log = record {
     is_open = log.is_open;
     verdict = log.verdict;
-    holds = λ is. subst (λ (image : Image). LogHolds kv.log (image kv.log.gate.file)) (seen_same (told_before is)) (log.holds (told_before is))
+    holds = λ is. subst (λ (image : Image). LogHolds kv.log (image kv.log.gate.file)) (seen_same (told_before is)) (log.holds (told_before is));
   }
 
   pub ready_got : (Tells s → IsTrueTo (seen s) (family_at ns number)) → ((file : ℕ) (bytes : List ℕ) → Tells s → kv.manifest.live.next_file ≤ file → AgreesWith file bytes (family_at kv.families number).cached → AgreesWith file bytes (family_at ns number).cached) → IsReady (record { manifest = kv.manifest; log = kv.log; families = ns }) t
@@ -185,7 +185,7 @@ module _ (kv : KvState) (s t : State) (ready : IsReady kv s) (tells : t.tells �
     awaits = awaits_stay kv.log.pending ready.awaits;
     turned = λ is. subst (λ (image : Image). IfSome kv.log.pending (λ p. IsNaming (system (record { manifest = kv.manifest; log = kv.log; families = ns }) image) p.operations → AreTurned ns p.operations)) (seen_same (told_before is)) (turned_stay (seen s) kv.log.pending (ready.turned (told_before is)));
     holds = λ is.
-      let before = told_before is in
-      subst (λ (image : Image). Holds (record { manifest = kv.manifest; log = kv.log; families = ns }) image) (seen_same before)
-        (holds_got kv (seen s) (ready.holds before) number ns only memtable levels (true_to before) (λ file bytes le. unread file bytes before le))
+        let before = told_before is in
+        subst (λ (image : Image). Holds (record { manifest = kv.manifest; log = kv.log; families = ns }) image) (seen_same before)
+        (holds_got kv (seen s) (ready.holds before) number ns only memtable levels (true_to before) (λ file bytes le. unread file bytes before le));
   }

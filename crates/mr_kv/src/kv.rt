@@ -40,6 +40,17 @@ pub struct Kv {
 }
 
 impl Kv {
+    /// A store of an open manifest, its live engine log, and the families that both say.
+    pub fn of(manifest: Manifest, log: EngineLog, families: Families) -> Kv
+        ensures { result ≡ record { manifest = manifest; log = log; families = families } }
+    {
+        Kv {
+            manifest,
+            log,
+            families,
+        }
+    }
+
     /// What is live by the manifest.
     pub fn live(&self) -> &Live
         ensures { result.now ≡ self.now.manifest.live }
@@ -80,12 +91,7 @@ impl Kv {
 
     /// Writes a batch, which counts at once: by at most two syncs it is whole on the disk, and then in its families. Each of its families
     /// has a record that names it, and no earlier record of this kind is replaced. The record's body has at most 2^29 bytes. Takes memory.
-    pub fn write<D: Disk>(
-        &mut self,
-        alloc: Global,
-        disk: &mut D,
-        batch: Batch,
-    ) -> Result<(), Stop>
+    pub fn write<D: Disk>(&mut self, alloc: Global, disk: &mut D, batch: Batch) -> Result<(), Stop>
         requires ready { IsReady self.old (D.disk disk.old) }
         requires nothing { self.old.log.pending ≡ None }
         requires short { size_next self.old (APlain (self.old.log.last + 1) batch) ≤ 2 ^ 29 }
@@ -105,7 +111,8 @@ impl Kv {
         place_in_first_child();
         make_ready(alloc, &mut self.families, batch.as_slice())?;
         let added = self.log.write(alloc, disk, batch)?;
-        self.families.add(added.operations.as_slice(), added.sequence);
+        self.families
+            .add(added.operations.as_slice(), added.sequence);
         Ok(())
     }
 
@@ -150,7 +157,8 @@ impl Kv {
     {
         place_in_first_child();
         if let Some(batch) = self.log.decide() {
-            self.families.add(batch.operations.as_slice(), batch.sequence);
+            self.families
+                .add(batch.operations.as_slice(), batch.sequence);
         }
     }
 

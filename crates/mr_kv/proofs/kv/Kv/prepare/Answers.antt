@@ -44,8 +44,8 @@ returns-clause-ready g c =
         let ready : LogIsReady c.prepare.new.self t = subst (λ (r : Result (Unit {0}) Stop). OnOk r (LogIsReady c.prepare.new.self t)) is c.prepare.ensures.ready in
         let has : Tells s → HasRecord (next_record kv (Prepare c.args.k (kv.log.last + 1) c.args.batch)) (seen s kv.log.gate.file) (seen t kv.log.gate.file) = λ told. subst (λ (r : Result (Unit {0}) Stop). OnOk r (HasRecord (next_record kv (Prepare c.args.k (kv.log.last + 1) c.args.batch)) (seen s kv.log.gate.file) (seen t kv.log.gate.file))) is (c.prepare.ensures.has told) in
         subst (λ (l : LogState). IsReady (record { manifest = kv.manifest; log = l; families = c.make_ready.new.families }) t) (sym log)
-          (ready_prepared (λ d v vs more. c.place_in_first_child.ensures d v vs more) kv s t c.requires.ready c.requires.nothing c.prepare.ensures.counts.tells
-            (λ told other apart. (at_end s t (OneFile kv.log.gate.file (present s) (λ bytes. IsAtRest (file_of s kv.log.gate.file) → MayHaveRecord (next_record kv (Prepare c.args.k (kv.log.last + 1) c.args.batch)) (file_of s kv.log.gate.file).bytes bytes)) (c.prepare.ensures.any_moment told)).files other apart)
-            n c.args.k (kv.log.last + 1) (omega (arith, number)) c.args.batch c.requires.naming has (subst (λ (l : LogState). LogIsReady l t) log ready) c.make_ready.new.families
-            (subst (λ (os : List Operation). IsMadeReady os kv.families c.make_ready.new.families) c.as_slice.ensures (record { readied = c.in_ok-make_ready.ensures.readied; turned = c.in_ok-make_ready.ensures.turned }))
-            (subst (λ (os : List Operation). AreAwaited c.make_ready.new.families os) c.as_slice.ensures c.in_ok-make_ready.ensures.awaited))
+        (ready_prepared (λ d v vs more. c.place_in_first_child.ensures d v vs more) kv s t c.requires.ready c.requires.nothing c.prepare.ensures.counts.tells
+        (λ told other apart. (at_end s t (OneFile kv.log.gate.file (present s) (λ bytes. IsAtRest (file_of s kv.log.gate.file) → MayHaveRecord (next_record kv (Prepare c.args.k (kv.log.last + 1) c.args.batch)) (file_of s kv.log.gate.file).bytes bytes)) (c.prepare.ensures.any_moment told)).files other apart)
+        n c.args.k (kv.log.last + 1) (omega (arith, number)) c.args.batch c.requires.naming has (subst (λ (l : LogState). LogIsReady l t) log ready) c.make_ready.new.families
+        (subst (λ (os : List Operation). IsMadeReady os kv.families c.make_ready.new.families) c.as_slice.ensures (record { readied = c.in_ok-make_ready.ensures.readied; turned = c.in_ok-make_ready.ensures.turned }))
+        (subst (λ (os : List Operation). AreAwaited c.make_ready.new.families os) c.as_slice.ensures c.in_ok-make_ready.ensures.awaited))

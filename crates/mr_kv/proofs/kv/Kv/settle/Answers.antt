@@ -36,17 +36,17 @@ returns-clause-ready g c = by_verdict (cases_Bool (c.args.self.now.log.verdict =
         let ready : LogIsReady c.settle.new.self t = subst (λ (r : Result (Unit {0}) Stop). OnOk r (LogIsReady c.settle.new.self t)) is c.settle.ensures.ready in
         let has : Tells s → HasRecord (next_record kv Decided) (seen s kv.log.gate.file) (seen t kv.log.gate.file) = λ told. subst (λ (r : Result (Unit {0}) Stop). OnOk r (HasRecord (next_record kv Decided) (seen s kv.log.gate.file) (seen t kv.log.gate.file))) is (c.settle.ensures.has told some) in
         subst (λ (l : LogState). IsReady (record { manifest = kv.manifest; log = l; families = kv.families }) t) (sym log)
-          (ready_settled (λ d v vs more. c.place_in_first_child.ensures d v vs more) kv s t c.requires.ready c.requires.nothing c.settle.ensures.counts.tells
-            (λ told other apart. (at_end s t (OneFile kv.log.gate.file (present s) (λ bytes. IsAtRest (file_of s kv.log.gate.file) → MayHaveRecord (next_record kv Decided) (file_of s kv.log.gate.file).bytes bytes)) (c.settle.ensures.any_moment told)).files other apart)
-            n has (subst (λ (l : LogState). LogIsReady l t) log ready))
+        (ready_settled (λ d v vs more. c.place_in_first_child.ensures d v vs more) kv s t c.requires.ready c.requires.nothing c.settle.ensures.counts.tells
+        (λ told other apart. (at_end s t (OneFile kv.log.gate.file (present s) (λ bytes. IsAtRest (file_of s kv.log.gate.file) → MayHaveRecord (next_record kv Decided) (file_of s kv.log.gate.file).bytes bytes)) (c.settle.ensures.any_moment told)).files other apart)
+        n has (subst (λ (l : LogState). LogIsReady l t) log ready))
 
     by_verdict : ((c.args.self.now.log.verdict == 0) ≡ true) ⊎ ((c.args.self.now.log.verdict == 0) ≡ false) → OnOk c.settle.result (IsReady (record { manifest = c.args.self.now.manifest; log = c.settle.new.self; families = c.args.self.now.families }) (g.D.Disk.disk c.settle.new.disk))
     by_verdict (inl none) =
         let kv = c.args.self.now in
         let all = c.settle.ensures.settled (grind (arith, nat_tests, none)) in
         on_ok_given c.settle.result (IsReady (record { manifest = kv.manifest; log = c.settle.new.self; families = kv.families }) (g.D.Disk.disk c.settle.new.disk))
-          (subst (λ (l : LogState). IsReady (record { manifest = kv.manifest; log = l; families = kv.families }) (g.D.Disk.disk c.settle.new.disk)) (sym all.1)
-            (subst (λ (u : State). IsReady kv u) (sym all.2) c.requires.ready))
+        (subst (λ (l : LogState). IsReady (record { manifest = kv.manifest; log = l; families = kv.families }) (g.D.Disk.disk c.settle.new.disk)) (sym all.1)
+        (subst (λ (u : State). IsReady kv u) (sym all.2) c.requires.ready))
     by_verdict (inr some) = by_result (λ zero. verdict_is_some zero some) c.settle.result refl
       where
         verdict_is_some : c.args.self.now.log.verdict ≡ 0 → (c.args.self.now.log.verdict == 0) ≡ false → ⊥

@@ -46,6 +46,6 @@ returns-clause-ready g c =
     let added : Added (kv.log.last + 1) c.args.batch c.make_ready.new.families c.add.new.self = subst (λ (b : Batched). Added b.sequence b.operations c.make_ready.new.families c.add.new.self) given (subst (λ (os : List Operation). Added c.in_ok-added.added.sequence os c.make_ready.new.families c.add.new.self) c.as_slice-2.ensures c.add.ensures) in
     let batched : HasBatch (kv.log.last + 1) c.args.batch kv.families c.add.new.self = record { between = c.make_ready.new.families; made = subst (λ (os : List Operation). IsMadeReady os kv.families c.make_ready.new.families) c.as_slice.ensures (record { readied = c.in_ok-make_ready.ensures.readied; turned = c.in_ok-make_ready.ensures.turned }); added = added } in
     subst (λ (l : LogState). IsReady (record { manifest = kv.manifest; log = l; families = c.add.new.self }) t) (sym log)
-      (ready_written (λ d v vs more. c.place_in_first_child.ensures d v vs more) kv s t c.requires.ready c.requires.nothing c.write.ensures.counts.tells
-        (λ told other apart. (at_end s t (OneFile kv.log.gate.file (present s) (λ bytes. IsAtRest (file_of s kv.log.gate.file) → MayHaveRecord (next_record kv (Plain (kv.log.last + 1) c.args.batch)) (file_of s kv.log.gate.file).bytes bytes)) (c.write.ensures.any_moment told)).files other apart)
-        n (kv.log.last + 1) (omega (arith, c.in_ok-added.ensures.number)) c.args.batch c.requires.naming c.in_ok-added.ensures.has (subst (λ (l : LogState). LogIsReady l t) log c.in_ok-added.ensures.ready) c.add.new.self batched)
+    (ready_written (λ d v vs more. c.place_in_first_child.ensures d v vs more) kv s t c.requires.ready c.requires.nothing c.write.ensures.counts.tells
+    (λ told other apart. (at_end s t (OneFile kv.log.gate.file (present s) (λ bytes. IsAtRest (file_of s kv.log.gate.file) → MayHaveRecord (next_record kv (Plain (kv.log.last + 1) c.args.batch)) (file_of s kv.log.gate.file).bytes bytes)) (c.write.ensures.any_moment told)).files other apart)
+    n (kv.log.last + 1) (omega (arith, c.in_ok-added.ensures.number)) c.args.batch c.requires.naming c.in_ok-added.ensures.has (subst (λ (l : LogState). LogIsReady l t) log c.in_ok-added.ensures.ready) c.add.new.self batched)
