@@ -1,35 +1,30 @@
 -- A store whose look-up brought blocks into a family's cache.
 use Rattle.std.proofs.Common.{◌≡◌, ◌≢◌, ◌==◌, ℕ, ◌<◌, ◌≤◌, Bool, true, false, List, [], ◌∷◌, map, Option, Result, Ok, Err, refl, sym, ◌∙◌, ap, subst, inl, inr, arith}
 use Rattle.std.specs.List.{AllByRecursion}
-use Rattle.std.specs.Cmp.{IsTotalOrder}
 use Rattle.std.specs.declared.cmp.Ordering.{Ordering}
 use Rattle.std.specs.Ordering.{is_gt}
 use Rattle.std.proofs.lemmas.Bool.{cases_Bool}
 use Rattle.std.proofs.lemmas.Bool.Decides.{nat_tests}
 use Rattle.mr_base.specs.Disk.{Image}
-use Rattle.mr_base.specs.declared.stop.Direction.{Direction}
-use Rattle.mr_iter.specs.Versions.{Version, place_in, in_order}
+use Rattle.mr_iter.specs.Versions.{place_in, in_order}
 use Rattle.mr_run_file.specs.Reading.{Index, recorded_in}
 use Rattle.mr_run_open.specs.Runs.{RunState, HasIndex, opened}
 use Rattle.mr_run_get.specs.Get.{IsGapless}
-use Rattle.mr_block_cache.specs.Cache.{CachedBlock, AgreesWith}
+use Rattle.mr_block_cache.specs.Cache.{AgreesWith}
 use Rattle.mr_levels.specs.Levels.{LevelsState, runs as runs_by_level}
-use Rattle.mr_levels.specs.Looks.{AgreeWith, AreGapless}
-use Rattle.mr_manifest.specs.declared.live.Live.{Live}
+use Rattle.mr_levels.specs.Looks.{AreGapless}
 use Rattle.mr_manifest.specs.declared.live.LiveRun.{LiveRun}
-use Rattle.mr_engine_log.specs.Logged.{Logged, after_verdict}
-use Rattle.mr_engine_log.specs.declared.batched.Batched.{Batched}
+use Rattle.mr_engine_log.specs.Logged.{after_verdict}
 use Rattle.mr_family.specs.Family.{FamilyState, direction, files, IsTrueTo}
 use Rattle.mr_families.specs.declared.numbered.Numbered.{Numbered}
 use Rattle.mr_families.specs.Known.{family_at}
 use Rattle.mr_families.specs.Changed.{OnlyAt}
-use Rattle.mr_stored.specs.Said.{Place, Said, ◌>>=◌, in_file}
+use Rattle.mr_stored.specs.Said.{Place, ◌>>=◌, in_file}
 use Rattle.mr_stored.specs.Lists.{info_of, index_in, index_or_none, levels_of, with_batches}
 use Rattle.mr_stored.specs.Offences.{run_cmp, structures, structure_judged, overlap_place, first_overlap, runs_judged}
 use Rattle.mr_stored.proofs.Saying.{says_given}
 use Rattle.mr_stored.proofs.Kept.{of_runs, of_levels}
-use Rattle.mr_store_memory.specs.Held.{Held}
-use Rattle.mr_kv.specs.Store.{KvState, Holds, AreUnread}
+use Rattle.mr_kv.specs.Store.{KvState, Holds}
 
 -- ---- runs whose structure was judged
 

@@ -1,5 +1,5 @@
 -- What keeps an open store beside its files.
-use Rattle.std.proofs.Common.{◌≡◌, ◌≢◌, ◌⊎◌, ◌==◌, ◌++◌, ℕ, zero, suc, ◌<◌, ◌≤◌, ◌^◌, Bool, true, false, if◌then◌else◌, List, [], ◌∷◌, Option, Some, None, Result, Ok, Err, refl, sym, ◌∙◌, ap, subst, inl, inr, arith}
+use Rattle.std.proofs.Common.{◌≡◌, ◌≢◌, ◌⊎◌, ◌==◌, ◌++◌, ℕ, ◌<◌, ◌^◌, Bool, true, false, if◌then◌else◌, List, [], ◌∷◌, Option, Some, None, Result, Ok, Err, refl, sym, ◌∙◌, ap, subst, inl, inr, arith}
 use mathlib.Core.Bool.{true≢false}
 use Rattle.std.proofs.lemmas.Bool.Decides.{nat_tests}
 use Rattle.std.specs.List.{AllByRecursion}
@@ -10,32 +10,32 @@ use Rattle.mr_wal.specs.declared.record.WalBody.TheVariants.{Prepare, Plain, Dec
 use Rattle.mr_wal.specs.EngineLog.{body_bytes, record_bytes}
 use Rattle.mr_iter.specs.Versions.{Version, version_cmp, place_in, merged}
 use Rattle.mr_iter.specs.Cursors.{SameFiles}
-use Rattle.mr_run_open.specs.Runs.{RunState, opened}
+use Rattle.mr_run_open.specs.Runs.{RunState}
 use Rattle.mr_block_cache.specs.Cache.{CachedBlock, AgreesWith}
 use Rattle.mr_levels.specs.Levels.{LevelsState, runs as runs_by_level}
 use Rattle.mr_levels.specs.Looks.{AgreeWith}
 use Rattle.mr_manifest.specs.declared.live.Live.{Live}
 use Rattle.mr_manifest.specs.declared.live.LiveRun.{LiveRun}
-use Rattle.mr_engine_log.specs.Logged.{Logged, log_of, after_verdict, decided, undecided, applied, with_body, is_wrong_verdict}
+use Rattle.mr_engine_log.specs.Logged.{Logged, log_of, after_verdict, decided, undecided, applied, is_wrong_verdict}
 use Rattle.mr_engine_log.specs.Added.{HasRecord}
 use Rattle.mr_engine_log.specs.Standing.{LogState, IsVerdictOn, Holds as LogHolds, record_of, with_verdict}
 use Rattle.mr_engine_log.specs.declared.batched.Batched.{Batched}
 use Rattle.mr_engine_log.specs.declared.batched.Prepared.{Prepared}
-use Rattle.mr_family.specs.Family.{FamilyState, direction, versions, IsTrueTo}
+use Rattle.mr_family.specs.Family.{FamilyState, direction, IsTrueTo}
 use Rattle.mr_families.specs.declared.numbered.Numbered.{Numbered}
-use Rattle.mr_families.specs.Known.{family_at, empty_family}
+use Rattle.mr_families.specs.Known.{family_at}
 use Rattle.mr_families.specs.Changed.{without_room}
 use Rattle.mr_families.specs.Batches.{Added}
 use Rattle.mr_stored.specs.Said.{Said}
 use Rattle.mr_stored.specs.Begun.{Says, IsApart, AreApart}
 use Rattle.mr_stored.specs.Names.{IsNaming}
-use Rattle.mr_stored.specs.Lists.{system_of, run_files, info_of, index_in, levels_of}
+use Rattle.mr_stored.specs.Lists.{system_of, run_files, levels_of}
 use Rattle.mr_stored.proofs.Saying.{logged_is, says_with, says_apart}
 use Rattle.mr_stored.proofs.Kept.{judged_same, of_runs, of_levels}
 use Rattle.mr_store_memory.specs.Held.{Held, AreTurned}
 use Rattle.mr_store_memory.specs.Readied.{Readied, IsRelearnt}
 use Rattle.mr_store_memory.proofs.Holding.{held_image, held_readied, turned_readied, held_added, held_versions}
-use Rattle.mr_kv.specs.Store.{KvState, Holds, AreUnread, system, versions_in}
+use Rattle.mr_kv.specs.Store.{KvState, Holds, AreUnread, system}
 use Rattle.mr_kv.specs.Batch.{IsMadeReady, HasBatch}
 
 -- ---- what the log leaves
@@ -230,6 +230,17 @@ module _ (first : (d : _) (v : Version) (vs : List Version) (more : List (List V
     where
       counted_now : (after_verdict log'.verdict (applied (record_of kv.log Decided) holds.logged)).batches ≡ counting kv holds.logged
       counted_now = ap (λ (v : ℕ). (after_verdict v (applied (record_of kv.log Decided) holds.logged)).batches) verdict ∙ none_decided (undecided kv.log.verdict holds.logged.pending) (counting kv holds.logged)
+
+  -- families that are made ready for a batch that isn't written
+  pub holds_readied : (kv : KvState) (i : Image) → Holds kv i → (batch : List Operation) → IsNaming (system kv i) batch → (ns : List Numbered) → Readied batch kv.families ns → Holds (record { manifest = kv.manifest; log = kv.log; families = ns }) i
+  holds_readied kv i holds batch naming ns readied = record {
+    logged = holds.logged;
+    says = holds.says;
+    held = held_readied kv.families ns i kv.manifest.live.runs (counting kv holds.logged) batch (subst (λ (vs : List Version). IsNaming vs batch) (system_is kv i holds) naming) holds.held readied;
+    judged = holds.judged;
+    cached = λ f. readied_true f batch i (family_at kv.families f) (family_at ns f) (readied.each f) (holds.cached f);
+    unread = λ f at bytes le. readied_unread f batch at bytes (family_at kv.families f) (family_at ns f) (readied.each f) (holds.unread f at bytes le);
+  }
 
   -- ---- verdicts in memory
 

@@ -1,15 +1,15 @@
 -- What files say at each moment of a record's writing.
-use Rattle.std.proofs.Common.{◌≡◌, ◌≢◌, ◌⊎◌, ℕ, ◌<◌, List, Result, Ok, Err, refl, sym, ◌∙◌, ap, subst, inl, inr, arith}
-use Rattle.mr_base.specs.Disk.{State, Moment, Image, File, Leaves, MayLeave, IsAtRest, present, file_of, seen}
-use Rattle.mr_base.specs.Calls.{During, OneFile}
+use Rattle.std.proofs.Common.{◌≡◌, ◌≢◌, ◌⊎◌, ℕ, ◌<◌, Result, Ok, Err, refl, sym, ◌∙◌, ap, subst, inl, inr, arith}
+use Rattle.mr_base.specs.Disk.{State, Moment, Image, File, MayLeave, IsAtRest, present, file_of, seen}
+use Rattle.mr_base.specs.Calls.{OneFile}
 use Rattle.mr_base.proofs.Moments.{started, weaker}
 use Rattle.mr_wal.specs.declared.record.WalRecord.{WalRecord}
-use Rattle.mr_engine_log.specs.Logged.{Logged, log_of, applied}
+use Rattle.mr_engine_log.specs.Logged.{log_of, applied}
 use Rattle.mr_engine_log.specs.Added.{IsDue, MayHaveRecord, Records}
 use Rattle.mr_stored.specs.Said.{Place, Said, with_record}
 use Rattle.mr_stored.specs.Begun.{Says}
 use Rattle.mr_stored.proofs.Saying.{logged_is, says_with, says_same, says_apart}
-use Rattle.mr_kv.specs.Batch.{SaysOldOrNew, MayHaveSaid, Writes}
+use Rattle.mr_kv.specs.Batch.{MayHaveSaid, Writes}
 
 said_same : {a b : Said} → ◌≡◌ {A = Result Said Place} (Ok a) (Ok b) → a ≡ b
 said_same {a = a} e = ap (λ (r : Result Said Place). of r a) e

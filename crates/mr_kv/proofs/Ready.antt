@@ -1,17 +1,21 @@
 -- A store that is ready, after a call.
-use Rattle.std.proofs.Common.{◌≡◌, ◌≢◌, ◌+◌, ◌==◌, ℕ, ◌<◌, ◌≤◌, ◌^◌, Bool, true, IsTrue, IfSome, List, [], ◌∷◌, Option, None, Some, inl, inr, refl, sym, ◌∙◌, ap, subst, arith}
+use Rattle.std.proofs.Common.{◌≡◌, ◌≢◌, ◌==◌, ℕ, ◌⊎◌, ◌<◌, ◌≤◌, ◌^◌, Bool, true, IsTrue, IfSome, List, [], ◌∷◌, Option, None, Some, inl, inr, refl, sym, ◌∙◌, ap, subst, arith}
 use Rattle.std.proofs.lemmas.Bool.{cases_Bool}
 use Rattle.std.proofs.lemmas.Bool.Decides.{nat_tests}
 use Rattle.mr_base.specs.Disk.{State, Moment, Image, Tells, File, file_of, seen}
 use Rattle.mr_base.specs.Calls.{Same}
-use Rattle.mr_base.proofs.Moments.{same_present}
+use Rattle.mr_base.specs.declared.stop.Stop.{Stop}
+use Rattle.mr_base.specs.declared.stop.Stop.TheVariants.{Memory, Disk, Full, Damaged}
+use Rattle.mr_gate.specs.Gate.{Gate, IsUntouched}
+use Rattle.mr_store_memory.specs.Readied.{Readied}
+use Rattle.mr_base.proofs.Moments.{same_present, same_start}
+use Rattle.mr_base.proofs.Counting.{counts_start}
 use Rattle.mr_wal.specs.declared.operation.Operation.{Operation}
-use Rattle.mr_wal.specs.declared.record.WalBody.{WalBody}
 use Rattle.mr_wal.specs.declared.record.WalBody.TheVariants.{Prepare, Plain, Decided}
 use Rattle.mr_iter.specs.Versions.{Version, version_cmp, place_in, merged}
 use Rattle.mr_manifest.specs.Manifest.{StandsFor}
 use Rattle.mr_engine_log.specs.Added.{HasRecord}
-use Rattle.mr_engine_log.specs.Standing.{LogState, Holds as LogHolds, IsReady as LogIsReady, record_of, with_record, with_verdict, prepared}
+use Rattle.mr_engine_log.specs.Standing.{LogState, Holds as LogHolds, IsReady as LogIsReady, IsRecordStop, IsAppendStop, record_of, with_record, with_verdict, prepared}
 use Rattle.mr_engine_log.specs.declared.batched.Prepared.{Prepared}
 use Rattle.mr_families.specs.declared.numbered.Numbered.{Numbered}
 use Rattle.mr_families.specs.Batches.{Added, AreAwaited, AreKnown, entries_for, bytes_for}
@@ -25,7 +29,7 @@ use Rattle.mr_store_memory.specs.Held.{AreTurned}
 use Rattle.mr_stored.specs.Names.{IsNaming}
 use Rattle.mr_kv.specs.Store.{KvState, IsReady, Holds, NamesPending, system}
 use Rattle.mr_kv.specs.Batch.{IsMadeReady, HasBatch}
-use Rattle.mr_kv.proofs.Holding.{holds_written, holds_prepared, holds_settled, holds_decided, holds_abandoned, turned_prepared}
+use Rattle.mr_kv.proofs.Holding.{holds_written, holds_prepared, holds_settled, holds_decided, holds_abandoned, holds_readied, turned_prepared}
 use Rattle.mr_kv.proofs.Cached.{holds_got}
 use Rattle.mr_kv.proofs.Moments.{apart_from_manifest}
 
@@ -189,3 +193,54 @@ module _ (kv : KvState) (s t : State) (ready : IsReady kv s) (tells : t.tells �
         subst (λ (image : Image). Holds (record { manifest = kv.manifest; log = kv.log; families = ns }) image) (seen_same before)
         (holds_got kv (seen s) (ready.holds before) number ns only memtable levels (true_to before) (λ file bytes le. unread file bytes before le));
   }
+
+-- ---- calls that wrote nothing
+
+untouched_record : (gate : Gate) (n : ℕ) (s t : State) (stop : Stop) → IsRecordStop gate n s t stop → (stop ≡ Disk) ⊎ IsUntouched s t
+untouched_record gate n s t Memory is = inr is
+untouched_record gate n s t Disk is = inl refl
+untouched_record gate n s t (Full what at limit) is = inr is.2
+untouched_record gate n s t (Damaged file at) is = absurd is
+
+pub untouched_append : (log : LogState) (n : ℕ) (s t : State) (stop : Stop) → IsAppendStop log n s t stop → (stop ≡ Disk) ⊎ IsUntouched s t
+untouched_append log n s t stop (inl is) = untouched_record log.gate n s t stop is
+untouched_append log n s t stop (inr is) = inr is.3
+
+pub untouched_settle : (gate : Gate) (n : ℕ) (s t : State) (stop : Stop) → IsRecordStop gate n s t stop → (stop ≡ Disk) ⊎ IsUntouched s t
+untouched_settle = untouched_record
+
+module _ (kv : KvState) (s t : State) (ready : IsReady kv s) (nothing : kv.log.pending ≡ None) (untouched : IsUntouched s t) where
+  told_then : Tells t → Tells s
+  told_then is = subst (λ (b : Bool). IsTrue b) untouched.counts.tells is
+
+  same_seen : Tells s → seen s ≡ seen t
+  same_seen is =
+      let bytes_of_each : Moment → Image = λ m file. (m.files file).bytes in
+      ap bytes_of_each (sym (same_present s t (untouched.same is)))
+
+  -- where its families mean the same
+  still_ready : (ns : List Numbered) → (Tells s → Holds (record { manifest = kv.manifest; log = kv.log; families = ns }) (seen s)) → IsReady (record { manifest = kv.manifest; log = kv.log; families = ns }) t
+  still_ready ns holds = record {
+    is_open = ready.is_open;
+    manifest = λ is. subst (λ (image : Image). StandsFor kv.manifest (image 0)) (same_seen (told_then is)) (ready.manifest (told_then is));
+    log = record {
+      is_open = ready.log.is_open;
+      verdict = ready.log.verdict;
+      holds = λ is. subst (λ (image : Image). LogHolds kv.log (image kv.log.gate.file)) (same_seen (told_then is)) (ready.log.holds (told_then is));
+    };
+    file = ready.file;
+    base = ready.base;
+    awaits = subst (λ (o : Option Prepared). IfSome o (λ p. (p.sequence < 2 ^ 63) × AreAwaited ns p.operations)) (sym nothing) tt;
+    turned = λ is. subst (λ (o : Option Prepared). IfSome o (λ p. IsNaming (system (record { manifest = kv.manifest; log = kv.log; families = ns }) (seen t)) p.operations → AreTurned ns p.operations)) (sym nothing) tt;
+    holds = λ is. subst (λ (image : Image). Holds (record { manifest = kv.manifest; log = kv.log; families = ns }) image) (same_seen (told_then is)) (holds (told_then is));
+  }
+
+  pub ready_as_before : IsReady kv t
+  ready_as_before = still_ready kv.families ready.holds
+
+  module _ (first : (d : _) (v : Version) (vs : List Version) (more : List (List Version)) → merged (version_cmp d) (place_in (version_cmp d) v vs ∷ more) ≡ place_in (version_cmp d) v (merged (version_cmp d) (vs ∷ more))) where
+    pub ready_unwritten : (batch : List Operation) → (Tells s → IsNaming (system kv (seen s)) batch) → (ns : List Numbered) → Readied batch kv.families ns → IsReady (record { manifest = kv.manifest; log = kv.log; families = ns }) t
+    ready_unwritten batch naming ns readied = still_ready ns (λ is. holds_readied first kv (seen s) (ready.holds is) batch (naming is) ns readied)
+
+pub untouched_itself : (s : State) → IsUntouched s s
+untouched_itself s = record { counts = counts_start s; same = λ is. same_start s }

@@ -10,7 +10,6 @@ use Rattle.mr_family.specs.Family.{versions, IsTrueTo}
 use Rattle.mr_families.specs.declared.numbered.Numbered.{Numbered}
 use Rattle.mr_families.specs.Known.{family_at}
 use Rattle.mr_families.specs.Batches.{AreAwaited}
-use Rattle.mr_stored.specs.Said.{Said}
 use Rattle.mr_stored.specs.Begun.{Says}
 use Rattle.mr_stored.specs.Names.{IsNaming}
 use Rattle.mr_stored.specs.Offences.{runs_judged}

@@ -104,6 +104,7 @@ impl Kv {
         ensures counts { Counts 0 0 2 (D.disk disk.old) (D.disk disk.new) }
         ensures err { IfErr result (IsAppendStop self.old.log (size_next self.old (APlain (self.old.log.last + 1) batch)) (D.disk disk.old) (D.disk disk.new)) }
         ensures kept { IfErr result (λ e. (e ≡ Stop.Disk) ⊎ IsAsBefore batch self.old self.new) }
+        ensures usable { IfErr result (λ e. (e ≡ Stop.Disk) ⊎ IsReady self.new (D.disk disk.new)) }
         ensures durable { Tells (D.disk disk.old) → OnOk result (IsAtRest (file_of (D.disk disk.new) self.old.log.gate.file)) }
         // A crash at any moment leaves what the files said, or that with the batch, and the other files as they were.
         ensures any_moment { Tells (D.disk disk.old) → Writes (next_record self.old (APlain (self.old.log.last + 1) batch)) self.old.log.gate.file (D.disk disk.old) (D.disk disk.new) }
@@ -137,6 +138,7 @@ impl Kv {
         ensures counts { Counts 0 0 2 (D.disk disk.old) (D.disk disk.new) }
         ensures err { IfErr result (IsAppendStop self.old.log (size_next self.old (APrepare k (self.old.log.last + 1) batch)) (D.disk disk.old) (D.disk disk.new)) }
         ensures kept { IfErr result (λ e. (e ≡ Stop.Disk) ⊎ IsAsBefore batch self.old self.new) }
+        ensures usable { IfErr result (λ e. (e ≡ Stop.Disk) ⊎ IsReady self.new (D.disk disk.new)) }
         ensures durable { Tells (D.disk disk.old) → OnOk result (IsAtRest (file_of (D.disk disk.new) self.old.log.gate.file)) }
         // A crash at any moment leaves what the files said, or that with the prepare, and the other files as they were.
         ensures any_moment { Tells (D.disk disk.old) → Writes (next_record self.old (APrepare k (self.old.log.last + 1) batch)) self.old.log.gate.file (D.disk disk.old) (D.disk disk.new) }
@@ -186,6 +188,7 @@ impl Kv {
         ensures counts { Counts 0 0 2 (D.disk disk.old) (D.disk disk.new) }
         ensures err { IfErr result (IsRecordStop self.old.log.gate (size_next self.old ADecided) (D.disk disk.old) (D.disk disk.new)) }
         ensures kept { IfErr result (λ e. (e ≡ Stop.Disk) ⊎ (self.new ≡ self.old)) }
+        ensures usable { IfErr result (λ e. (e ≡ Stop.Disk) ⊎ IsReady self.new (D.disk disk.new)) }
         ensures durable { Tells (D.disk disk.old) → (self.old.log.verdict ≡ 0 → ⊥) → OnOk result (IsAtRest (file_of (D.disk disk.new) self.old.log.gate.file)) }
         // A crash at any moment leaves what the files said, or that with the verdict, and the other files as they were.
         ensures any_moment { Tells (D.disk disk.old) → Writes (next_record self.old ADecided) self.old.log.gate.file (D.disk disk.old) (D.disk disk.new) }

@@ -1,6 +1,6 @@
-use Rattle.std.proofs.Common.{◌≡◌, Option, Some, IfSome, List, sym, ◌∙◌, ap, subst}
+use Rattle.std.proofs.Common.{◌≡◌, Some, List, sym, ◌∙◌, subst}
 use Rattle.mr_wal.specs.declared.operation.Operation.{Operation}
-use Rattle.mr_engine_log.specs.Standing.{LogState, IsReady as LogIsReady, with_verdict}
+use Rattle.mr_engine_log.specs.Standing.{LogState, IsReady as LogIsReady}
 use Rattle.mr_engine_log.specs.declared.batched.Prepared.{Prepared}
 use Rattle.mr_families.specs.Batches.{Added}
 use Rattle.mr_kv.specs.Store.{IsReady}

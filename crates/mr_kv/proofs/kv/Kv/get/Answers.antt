@@ -1,4 +1,3 @@
-use Rattle.std.proofs.Common.{◌≡◌, sym, ap, subst}
 use Rattle.mr_kv.proofs.Cached.{gapless, not_read}
 use Rattle.mr_kv.proofs.Ready.{ready_got}
 use Rattle.mr_kv.proofs.kv.Kv.get.Goals as goal

@@ -1,7 +1,10 @@
-use Rattle.std.proofs.Common.{◌≡◌, ◌≢◌, ◌+◌, ℕ, ◌<◌, ◌^◌, Some, Result, Ok, Err, OnOk, List, refl, sym, ◌∙◌, ap, subst, arith}
+use Rattle.std.proofs.Common.{◌≡◌, ◌⊎◌, ◌+◌, Some, Result, Ok, Err, OnOk, List, inl, inr, refl, sym, subst, arith}
 use Rattle.mr_base.specs.Disk.{Tells, present, seen, file_of, IsAtRest}
 use Rattle.mr_base.specs.declared.stop.Stop.{Stop}
-use Rattle.mr_engine_log.specs.Standing.{LogState, IsReady as LogIsReady, HasNoNumber, with_record, prepared}
+use Rattle.mr_base.specs.declared.stop.Stop.TheVariants.{Disk}
+use Rattle.mr_gate.specs.Gate.{IsUntouched}
+use Rattle.mr_store_memory.specs.Readied.{Readied}
+use Rattle.mr_engine_log.specs.Standing.{LogState, IsReady as LogIsReady, IsAppendStop, HasNoNumber, with_record, prepared}
 use Rattle.mr_base.specs.Calls.{OneFile}
 use Rattle.mr_base.proofs.Moments.{at_end}
 use Rattle.mr_wal.specs.declared.record.WalBody.TheVariants.{Prepare}
@@ -11,7 +14,8 @@ use Rattle.mr_families.specs.Batches.{AreAwaited}
 use Rattle.mr_kv.specs.Store.{IsReady}
 use Rattle.mr_kv.specs.Batch.{IsMadeReady, next_record, size_next}
 use Rattle.mr_kv.proofs.Moments.{writes, writes_none}
-use Rattle.mr_kv.proofs.Ready.{ready_prepared}
+use Rattle.mr_kv.proofs.Ready.{ready_prepared, ready_unwritten, untouched_append, untouched_itself}
+use Rattle.mr_kv.proofs.Outcomes.{if_err_given, if_err_both}
 use Rattle.mr_kv.proofs.kv.Kv.prepare.Goals as goal
 
 pub returns-in_err-make_ready-clause-any_moment : goal.returns-in_err-make_ready-clause-any_moment
@@ -49,3 +53,28 @@ returns-clause-ready g c =
         n c.args.k (kv.log.last + 1) (omega (arith, number)) c.args.batch c.requires.naming has (subst (λ (l : LogState). LogIsReady l t) log ready) c.make_ready.new.families
         (subst (λ (os : List Operation). IsMadeReady os kv.families c.make_ready.new.families) c.as_slice.ensures (record { readied = c.in_ok-make_ready.ensures.readied; turned = c.in_ok-make_ready.ensures.turned }))
         (subst (λ (os : List Operation). AreAwaited c.make_ready.new.families os) c.as_slice.ensures c.in_ok-make_ready.ensures.awaited))
+
+pub returns-in_err-make_ready-clause-usable : goal.returns-in_err-make_ready-clause-usable
+returns-in_err-make_ready-clause-usable g c =
+    let kv = c.args.self.now in
+    let s = g.D.Disk.disk c.args.disk.now in
+    if_err_given c.from_residual.result (λ (e : Stop). (e ≡ Disk) ⊎ IsReady (record { manifest = kv.manifest; log = kv.log; families = c.make_ready.new.families }) s)
+    (λ e. inr (ready_unwritten kv s s c.requires.ready c.requires.nothing (untouched_itself s) (λ d v vs more. c.place_in_first_child.ensures d v vs more) c.args.batch c.requires.naming c.make_ready.new.families
+    (subst (λ (os : List Operation). Readied os kv.families c.make_ready.new.families) c.as_slice.ensures c.in_err-make_ready.ensures.readied)))
+
+pub returns-clause-usable : goal.returns-clause-usable
+returns-clause-usable g c =
+    let kv = c.args.self.now in
+    let s = g.D.Disk.disk c.args.disk.now in
+    let t = g.D.Disk.disk c.prepare.new.disk in
+    let n = size_next kv (Prepare c.args.k (kv.log.last + 1) c.args.batch) in
+    if_err_both c.prepare.result (IsAppendStop kv.log n s t) (λ (e : Stop). (e ≡ Disk) ⊎ (c.prepare.new.self ≡ kv.log)) (λ (e : Stop). (e ≡ Disk) ⊎ IsReady (record { manifest = kv.manifest; log = c.prepare.new.self; families = c.make_ready.new.families }) t)
+    (λ e stop kept. usable (untouched_append kv.log n s t e stop) kept) c.prepare.ensures.err c.prepare.ensures.kept
+  where
+    usable : {e : Stop} → (e ≡ Disk) ⊎ IsUntouched (g.D.Disk.disk c.args.disk.now) (g.D.Disk.disk c.prepare.new.disk) → (e ≡ Disk) ⊎ (c.prepare.new.self ≡ c.args.self.now.log) → (e ≡ Disk) ⊎ IsReady (record { manifest = c.args.self.now.manifest; log = c.prepare.new.self; families = c.make_ready.new.families }) (g.D.Disk.disk c.prepare.new.disk)
+    usable (inl fault) kept = inl fault
+    usable (inr untouched) (inl fault) = inl fault
+    usable (inr untouched) (inr same) =
+        inr (subst (λ (l : LogState). IsReady (record { manifest = c.args.self.now.manifest; log = l; families = c.make_ready.new.families }) (g.D.Disk.disk c.prepare.new.disk)) (sym same)
+        (ready_unwritten c.args.self.now (g.D.Disk.disk c.args.disk.now) (g.D.Disk.disk c.prepare.new.disk) c.requires.ready c.requires.nothing untouched (λ d v vs more. c.place_in_first_child.ensures d v vs more) c.args.batch c.requires.naming c.make_ready.new.families
+        (subst (λ (os : List Operation). Readied os c.args.self.now.families c.make_ready.new.families) c.as_slice.ensures c.in_ok-make_ready.ensures.readied)))

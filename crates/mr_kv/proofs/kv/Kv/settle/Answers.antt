@@ -1,15 +1,17 @@
-use Rattle.std.proofs.Common.{◌≡◌, ◌≢◌, ◌⊎◌, ◌==◌, ◌+◌, ℕ, Bool, true, false, None, Result, Ok, Err, OnOk, inl, inr, refl, sym, ap, subst, arith}
+use Rattle.std.proofs.Common.{◌≡◌, ◌⊎◌, ◌==◌, true, false, None, Result, Ok, Err, OnOk, inl, inr, refl, sym, subst, arith}
 use Rattle.std.proofs.lemmas.Bool.{cases_Bool}
 use Rattle.std.proofs.lemmas.Bool.Decides.{nat_tests}
 use Rattle.mr_base.specs.Disk.{State, Tells, present, seen, file_of, IsAtRest}
 use Rattle.mr_base.specs.Calls.{OneFile}
 use Rattle.mr_base.specs.declared.stop.Stop.{Stop}
+use Rattle.mr_base.specs.declared.stop.Stop.TheVariants.{Disk}
+use Rattle.mr_gate.specs.Gate.{IsUntouched}
 use Rattle.mr_base.proofs.Moments.{at_end}
 use Rattle.mr_engine_log.specs.Added.{HasRecord, MayHaveRecord}
-use Rattle.mr_engine_log.specs.Standing.{LogState, IsReady as LogIsReady, with_record}
+use Rattle.mr_engine_log.specs.Standing.{LogState, IsReady as LogIsReady, IsRecordStop, with_record}
 use Rattle.mr_kv.specs.Store.{IsReady}
-use Rattle.mr_kv.proofs.Outcomes.{on_ok_given}
-use Rattle.mr_kv.proofs.Ready.{ready_settled}
+use Rattle.mr_kv.proofs.Outcomes.{on_ok_given, if_err_both}
+use Rattle.mr_kv.proofs.Ready.{ready_settled, ready_as_before, untouched_settle}
 use Rattle.mr_wal.specs.declared.record.WalBody.TheVariants.{Decided}
 use Rattle.mr_kv.specs.Batch.{next_record, size_next}
 use Rattle.mr_kv.proofs.Moments.{writes}
@@ -51,3 +53,18 @@ returns-clause-ready g c = by_verdict (cases_Bool (c.args.self.now.log.verdict =
       where
         verdict_is_some : c.args.self.now.log.verdict ≡ 0 → (c.args.self.now.log.verdict == 0) ≡ false → ⊥
         verdict_is_some zero some = grind (arith, nat_tests, zero, some)
+
+pub returns-clause-usable : goal.returns-clause-usable
+returns-clause-usable g c =
+    let kv = c.args.self.now in
+    let s = g.D.Disk.disk c.args.disk.now in
+    let t = g.D.Disk.disk c.settle.new.disk in
+    if_err_both c.settle.result (IsRecordStop kv.log.gate (size_next kv Decided) s t) (λ (e : Stop). (e ≡ Disk) ⊎ (c.settle.new.self ≡ kv.log)) (λ (e : Stop). (e ≡ Disk) ⊎ IsReady (record { manifest = kv.manifest; log = c.settle.new.self; families = kv.families }) t)
+    (λ e stop kept. usable (untouched_settle kv.log.gate (size_next kv Decided) s t e stop) kept) c.settle.ensures.err c.settle.ensures.kept
+  where
+    usable : {e : Stop} → (e ≡ Disk) ⊎ IsUntouched (g.D.Disk.disk c.args.disk.now) (g.D.Disk.disk c.settle.new.disk) → (e ≡ Disk) ⊎ (c.settle.new.self ≡ c.args.self.now.log) → (e ≡ Disk) ⊎ IsReady (record { manifest = c.args.self.now.manifest; log = c.settle.new.self; families = c.args.self.now.families }) (g.D.Disk.disk c.settle.new.disk)
+    usable (inl fault) kept = inl fault
+    usable (inr untouched) (inl fault) = inl fault
+    usable (inr untouched) (inr same) =
+        inr (subst (λ (l : LogState). IsReady (record { manifest = c.args.self.now.manifest; log = l; families = c.args.self.now.families }) (g.D.Disk.disk c.settle.new.disk)) (sym same)
+        (ready_as_before c.args.self.now (g.D.Disk.disk c.args.disk.now) (g.D.Disk.disk c.settle.new.disk) c.requires.ready c.requires.nothing untouched))
