@@ -1,9 +1,9 @@
 -- What a reading of a store's files gives.
-use Rattle.std.specs.Prelude.{◌≡◌, ◌⊎◌, ℕ, true, false, List, is_some, Option, Some, None, Result, Ok, Err}
-use Rattle.mr_base.specs.Disk.{Image}
+use Rattle.std.specs.Prelude.{◌≡◌, ◌⊎◌, ℕ, ◌+◌, ◌*◌, ◌≤◌, if◌then◌else◌, true, false, List, is_some, Option, Some, None, Result, Ok, Err}
+use Rattle.mr_base.specs.Disk.{Image, State}
 use Rattle.mr_base.specs.declared.stop.Stop.{Stop}
 use Rattle.mr_base.specs.declared.stop.Stop.TheVariants.{Memory, Disk, Damaged}
-use Rattle.mr_gate.specs.Log.{end_from}
+use Rattle.mr_gate.specs.Log.{records_from, end_from, span}
 use Rattle.mr_manifest.specs.declared.sum.Sum.{Sum}
 use Rattle.mr_engine_log.specs.declared.batched.Batched.{Batched}
 use Rattle.mr_engine_log.specs.declared.reader.Left.{Left}
@@ -54,3 +54,26 @@ IsReadBy image sum (Some r) = (said_by image sum ≡ Ok (said_in r)) × (is_some
 abbrev pub IsReadFrom : Image → Option Reading → Type 0
 IsReadFrom image None = (said image ≡ Ok nothing_said) × (has_record (manifest_sum image) ≡ false)
 IsReadFrom image (Some r) = Says image (said_in r) × (r.left.end ≡ end_from 0 (image r.live.log))
+
+-- ---- what it reads
+
+-- so many walks over records, of so many bytes in all
+pub record WalksRead (walks bytes : ℕ) (old new : State) : Type 0 where
+  pub asked : new.asked ≤ old.asked + (65536 * walks + 2 * bytes)
+  pub reads : 65528 * new.reads ≤ 65528 * (old.reads + walks) + (2 * bytes + 4 * walks)
+
+-- the bytes of a file's records
+abbrev pub walked : List ℕ → ℕ
+walked file = span (records_from 0 file)
+
+-- those of the log that is read behind the manifest: the live one, or where there is none the binary log, which is file 1
+abbrev pub walked_by : Image → Sum → ℕ
+walked_by image sum = walked (image (if is_some sum.at then sum.live.log else 1))
+
+abbrev pub walked_behind : Image → Result Sum Place → ℕ
+walked_behind image (Ok sum) = walked_by image sum
+walked_behind image (Err place) = 0
+
+-- the manifest is walked over twice, and then that log
+abbrev pub ReadsFrom : Image → State → State → Type 0
+ReadsFrom image old new = WalksRead 3 (2 * walked (image 0) + walked_behind image (manifest_sum image)) old new

@@ -3,7 +3,7 @@ ghost use Rattle.std.specs.Prelude.{◌≡◌, ◌⊎◌, ◌++◌, ℕ, IfOk, I
 ghost use Rattle.mr_base.specs.Disk.{Tells, HasRisen, seen};
 ghost use Rattle.mr_base.specs.Calls.{Same, Rises};
 ghost use Rattle.mr_engine_log.specs.Logged.{log_of, if_some, counted as counting};
-ghost use Rattle.mr_store_reading.specs.ReadBack.{IsStop, OffendsIn, IsLogRead};
+ghost use Rattle.mr_store_reading.specs.ReadBack.{IsStop, OffendsIn, IsLogRead, WalksRead, walked};
 
 use mr_base::{Disk, Stop};
 use mr_engine_log::{Batched, Counted, Left, LogReader};
@@ -41,6 +41,7 @@ pub(crate) fn read_log<D: Disk>(
     ensures same { Tells (D.disk disk.old) → Same (D.disk disk.old) (D.disk disk.new) }
     ensures failed { result ≡ Err Stop.Disk → HasRisen (D.disk disk.old).faults (D.disk disk.new).faults }
     ensures answers { IfErr result IsStop }
+    ensures reads { Tells (D.disk disk.old) → WalksRead 1 (walked (seen (D.disk disk.old) file)) (D.disk disk.old) (D.disk disk.new) }
     ensures read { Tells (D.disk disk.old) → IfOk result (λ r. IsLogRead base (seen (D.disk disk.old) file) r.0 r.1.items) }
     ensures damaged { Tells (D.disk disk.old) → IfErr result (OffendsIn file (log_of base (seen (D.disk disk.old) file))) }
 {
