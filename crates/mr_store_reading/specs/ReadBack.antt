@@ -1,5 +1,5 @@
 -- What a reading of a store's files gives.
-use Rattle.std.specs.Prelude.{◌≡◌, ◌⊎◌, ℕ, ◌+◌, ◌*◌, ◌≤◌, if◌then◌else◌, true, false, List, is_some, Option, Some, None, Result, Ok, Err}
+use Rattle.std.specs.Prelude.{◌≡◌, ◌⊎◌, ℕ, ◌+◌, ◌*◌, ◌^◌, ◌≤◌, min, if◌then◌else◌, true, false, List, is_some, Option, Some, None, Result, Ok, Err}
 use Rattle.mr_base.specs.Disk.{Image, State}
 use Rattle.mr_base.specs.declared.stop.Stop.{Stop}
 use Rattle.mr_base.specs.declared.stop.Stop.TheVariants.{Memory, Disk, Damaged}
@@ -66,14 +66,19 @@ pub record WalksRead (walks bytes : ℕ) (old new : State) : Type 0 where
 abbrev pub walked : List ℕ → ℕ
 walked file = span (records_from 0 file)
 
--- those of the log that is read behind the manifest: the live one, or where there is none the binary log, which is file 1
+-- those of its first record, which are no more than all and have a limit
+abbrev pub first_walked : List ℕ → ℕ
+first_walked file = min (walked file) (2 ^ 29 + 5)
+
+-- Those of the log that is read behind the manifest: of the live one all, and where there is none of the binary log, which is file 1, the
+-- first record's.
 abbrev pub walked_by : Image → Sum → ℕ
-walked_by image sum = walked (image (if is_some sum.at then sum.live.log else 1))
+walked_by image sum = if is_some sum.at then walked (image sum.live.log) else first_walked (image 1)
 
 abbrev pub walked_behind : Image → Result Sum Place → ℕ
 walked_behind image (Ok sum) = walked_by image sum
 walked_behind image (Err place) = 0
 
--- the manifest is walked over twice, and then that log
+-- the manifest's records are walked over, then its first one, and then that log
 abbrev pub ReadsFrom : Image → State → State → Type 0
-ReadsFrom image old new = WalksRead 3 (2 * walked (image 0) + walked_behind image (manifest_sum image)) old new
+ReadsFrom image old new = WalksRead 3 (walked (image 0) + first_walked (image 0) + walked_behind image (manifest_sum image)) old new

@@ -5,7 +5,7 @@ ghost use Rattle.mr_base.specs.Disk.{Tells, HasRisen, seen};
 ghost use Rattle.mr_base.specs.Calls.{Same, Rises};
 ghost use Rattle.mr_gate.specs.Log.{records_from, is_damaged_from};
 ghost use Rattle.mr_stored.specs.Said.{first_fields, in_file, last_upto as last_place, is_begun};
-ghost use Rattle.mr_store_reading.specs.ReadBack.{IsRefused, IsStop, OffendsIn, WalksRead, judged_first, walked};
+ghost use Rattle.mr_store_reading.specs.ReadBack.{IsRefused, IsStop, OffendsIn, WalksRead, first_walked, judged_first};
 
 use mr_base::{Disk, Stop};
 use mr_gate::LogWalk;
@@ -67,7 +67,7 @@ pub(crate) fn judge_first<D: Disk>(alloc: Global, disk: &mut D) -> Result<(), St
     ensures same { Tells (D.disk disk.old) → Same (D.disk disk.old) (D.disk disk.new) }
     ensures failed { result ≡ Err Stop.Disk → HasRisen (D.disk disk.old).faults (D.disk disk.new).faults }
     ensures answers { IfErr result IsStop }
-    ensures reads { Tells (D.disk disk.old) → WalksRead 1 (walked (seen (D.disk disk.old) 0)) (D.disk disk.old) (D.disk disk.new) }
+    ensures reads { Tells (D.disk disk.old) → WalksRead 1 (first_walked (seen (D.disk disk.old) 0)) (D.disk disk.old) (D.disk disk.new) }
     ensures first { Tells (D.disk disk.old) → IfOk result (λ u. judged_first (records_from 0 (seen (D.disk disk.old) 0)) ≡ Ok tt) }
     ensures differs { Tells (D.disk disk.old) → is_damaged_from 0 (seen (D.disk disk.old) 0) ≡ false
         → IfErr result (OffendsIn 0 (judged_first (records_from 0 (seen (D.disk disk.old) 0)))) }
@@ -85,7 +85,7 @@ pub(crate) fn judge_begun<D: Disk>(alloc: Global, disk: &mut D) -> Result<(), St
     ensures same { Tells (D.disk disk.old) → Same (D.disk disk.old) (D.disk disk.new) }
     ensures failed { result ≡ Err Stop.Disk → HasRisen (D.disk disk.old).faults (D.disk disk.new).faults }
     ensures answers { IfErr result IsStop }
-    ensures reads { Tells (D.disk disk.old) → WalksRead 1 (walked (seen (D.disk disk.old) 1)) (D.disk disk.old) (D.disk disk.new) }
+    ensures reads { Tells (D.disk disk.old) → WalksRead 1 (first_walked (seen (D.disk disk.old) 1)) (D.disk disk.old) (D.disk disk.new) }
     ensures none { Tells (D.disk disk.old) → IfOk result (λ u. is_begun (seen (D.disk disk.old) 1) ≡ false) }
     ensures begun { Tells (D.disk disk.old) → IfErr result (λ e. (e ≡ Stop.Disk) ⊎ ((e ≡ Stop.Memory)
         ⊎ ((is_begun (seen (D.disk disk.old) 1) ≡ true) × (e ≡ Stop.Damaged 1 0)))) }

@@ -1,9 +1,9 @@
 //! What the files of a store say, read from them.
-ghost use Rattle.std.specs.Prelude.{◌≡◌, ◌*◌, IfOk, IfErr, Ok, Err};
+ghost use Rattle.std.specs.Prelude.{◌≡◌, ◌+◌, IfOk, IfErr, Ok, Err};
 ghost use Rattle.mr_base.specs.Disk.{Tells, HasRisen, seen};
 ghost use Rattle.mr_base.specs.Calls.{Same, Rises};
 ghost use Rattle.mr_stored.specs.Said.{manifest_sum, said_by, said as saying};
-ghost use Rattle.mr_store_reading.specs.ReadBack.{IsStop, Offends, IsReadBy, IsReadFrom, ReadsFrom, WalksRead, walked, walked_by};
+ghost use Rattle.mr_store_reading.specs.ReadBack.{IsStop, Offends, IsReadBy, IsReadFrom, ReadsFrom, WalksRead, first_walked, walked, walked_by};
 
 use crate::first_record::{judge_begun, judge_first};
 use crate::log::read_log;
@@ -26,7 +26,7 @@ fn read_sum<D: Disk>(alloc: Global, disk: &mut D) -> Result<Sum, Stop>
     ensures same { Tells (D.disk disk.old) → Same (D.disk disk.old) (D.disk disk.new) }
     ensures failed { result ≡ Err Stop.Disk → HasRisen (D.disk disk.old).faults (D.disk disk.new).faults }
     ensures answers { IfErr result IsStop }
-    ensures reads { Tells (D.disk disk.old) → WalksRead 2 (2 * walked (seen (D.disk disk.old) 0)) (D.disk disk.old) (D.disk disk.new) }
+    ensures reads { Tells (D.disk disk.old) → WalksRead 2 (walked (seen (D.disk disk.old) 0) + first_walked (seen (D.disk disk.old) 0)) (D.disk disk.old) (D.disk disk.new) }
     ensures read { Tells (D.disk disk.old) → IfOk result (λ s. manifest_sum (seen (D.disk disk.old)) ≡ Ok s) }
     ensures damaged { Tells (D.disk disk.old) → IfErr result (Offends (manifest_sum (seen (D.disk disk.old)))) }
 {
@@ -65,7 +65,7 @@ pub fn read_said<D: Disk>(alloc: Global, disk: &mut D) -> Result<Option<Reading>
     ensures same { Tells (D.disk disk.old) → Same (D.disk disk.old) (D.disk disk.new) }
     ensures failed { result ≡ Err Stop.Disk → HasRisen (D.disk disk.old).faults (D.disk disk.new).faults }
     ensures answers { IfErr result IsStop }
-    // It walks over the manifest's records twice, and over the live log's once.
+    // Its cost goes by the bytes of the manifest's and the live log's records, and not by their number.
     ensures reads { Tells (D.disk disk.old) → ReadsFrom (seen (D.disk disk.old)) (D.disk disk.old) (D.disk disk.new) }
     ensures said { Tells (D.disk disk.old) → IfOk result (IsReadFrom (seen (D.disk disk.old))) }
     ensures damaged { Tells (D.disk disk.old) → IfErr result (Offends (saying (seen (D.disk disk.old)))) }
