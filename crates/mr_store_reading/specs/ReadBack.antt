@@ -14,6 +14,7 @@ use Rattle.mr_store_reading.specs.declared.reading.Reading.{Reading}
 
 -- ---- why a reading stops
 
+-- at the disk, for want of memory, or at damage of some file
 abbrev pub IsStop : Stop → Type 0
 IsStop e = (e ≡ Disk) ⊎ ((e ≡ Memory) ⊎ ((file at : ℕ) × (e ≡ Damaged file at)))
 
@@ -35,6 +36,7 @@ judged_first bodies = first_judged bodies tt
 
 -- ---- what it gives
 
+-- what the records leave, with these batches, and what a reading says
 abbrev pub logged_by : Left → List Batched → Logged
 logged_by left batches = rest_of left.pending left.last left.in_turn batches
 
@@ -66,12 +68,11 @@ pub record WalksRead (walks bytes : ℕ) (old new : State) : Type 0 where
 abbrev pub walked : List ℕ → ℕ
 walked file = span (records_from 0 file)
 
--- those of its first record, which are no more than all and have a limit
+-- at most so many are those of its first record
 abbrev pub first_walked : List ℕ → ℕ
 first_walked file = min (walked file) (2 ^ 29 + 5)
 
--- Those of the log that is read behind the manifest: of the live one all, and where there is none of the binary log, which is file 1, the
--- first record's.
+-- Those that are read behind the manifest: of the live log, or where the manifest has no record of the first record of file 1.
 abbrev pub walked_by : Image → Sum → ℕ
 walked_by image sum = if is_some sum.at then walked (image sum.live.log) else first_walked (image 1)
 
