@@ -1,0 +1,2 @@
+mod FirstRecord
+mod Summed
