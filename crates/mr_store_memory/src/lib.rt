@@ -4,4 +4,4 @@
 mod naming;
 mod readying;
 
-pub use readying::make_ready;
+pub use readying::{learn_number, learn_others, make_ready};

@@ -34,7 +34,7 @@ fn learn_names(alloc: Global, families: &mut Families, batch: &[Operation]) -> R
 }
 
 /// Makes a number known; an empty forward family stands for one that isn't. Takes memory.
-fn learn_number(alloc: Global, families: &mut Families, number: u32) -> Result<(), Memory>
+pub fn learn_number(alloc: Global, families: &mut Families, number: u32) -> Result<(), Memory>
     ensures same { (f : ℕ) → family_at families.new f ≡ family_at families.old f }
     ensures known { OnOk result (Knows number families.old families.new) }
 {
@@ -45,7 +45,7 @@ fn learn_number(alloc: Global, families: &mut Families, number: u32) -> Result<(
 }
 
 /// Makes the families of a batch known. Takes memory.
-fn learn_others(alloc: Global, families: &mut Families, batch: &[Operation]) -> Result<(), Memory>
+pub fn learn_others(alloc: Global, families: &mut Families, batch: &[Operation]) -> Result<(), Memory>
     ensures same { (f : ℕ) → family_at families.new f ≡ family_at families.old f }
     ensures known { OnOk result (AreKnown families.new batch.now) }
 {
