@@ -1,5 +1,5 @@
 -- Families that are filled, by number.
-use Rattle.std.specs.Prelude.{◌≡◌, ℕ, List, Err}
+use Rattle.std.specs.Prelude.{◌≡◌, ◌<◌, ◌^◌, ℕ, true, List, Err}
 use Rattle.mr_base.specs.Disk.{State, Tells, Image, HasRisen, seen}
 use Rattle.mr_base.specs.declared.stop.Stop.{Stop}
 use Rattle.mr_base.specs.declared.stop.Stop.TheVariants.{Memory, Disk, Full, Damaged}
@@ -9,8 +9,9 @@ use Rattle.mr_manifest.specs.declared.live.LiveRun.{LiveRun}
 use Rattle.mr_engine_log.specs.declared.batched.Batched.{Batched}
 use Rattle.mr_family.specs.Family.{FamilyState, direction}
 use Rattle.mr_families.specs.declared.numbered.Numbered.{Numbered}
-use Rattle.mr_families.specs.Known.{family_at}
-use Rattle.mr_stored.specs.Lists.{runs_of, with_runs, with_batches}
+use Rattle.mr_families.specs.Known.{family_at, empty_family}
+use Rattle.mr_stored.specs.Names.{is_named}
+use Rattle.mr_stored.specs.Lists.{runs_of, with_runs, with_batches, system_of, direction_of}
 
 -- its runs of these are open, each in its level, by the indexes that the image has
 pub record HasOpened (f : ℕ) (image : Image) (runs : List LiveRun) (old new : FamilyState) : Type 0 where
@@ -40,3 +41,13 @@ pub record HasAdded (f : ℕ) (batches : List Batched) (old new : FamilyState) :
 
 abbrev pub HaveAdded : List Batched → List Numbered → List Numbered → Type 0
 HaveAdded batches old new = (f : ℕ) → HasAdded f batches (family_at old f) (family_at new f)
+
+-- ---- before and behind
+
+-- no family has anything yet
+abbrev pub AreEmpty : List Numbered → Type 0
+AreEmpty ns = (f : ℕ) → family_at ns f ≡ empty_family (direction (family_at ns f))
+
+-- families that are named have the direction of their record
+abbrev pub AreDirected : Image → List LiveRun → List Batched → List Numbered → Type 0
+AreDirected image runs batches ns = (f : ℕ) → f < 2 ^ 32 → is_named (system_of image runs batches) f ≡ true → direction (family_at ns f) ≡ direction_of image runs batches f

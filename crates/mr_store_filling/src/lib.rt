@@ -2,7 +2,9 @@
 #![tactic(auto)]
 
 mod adding;
+mod laws;
 mod opening;
 
 pub use adding::add_batches;
+pub use laws::filled_families_are_held;
 pub use opening::open_runs;

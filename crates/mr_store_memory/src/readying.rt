@@ -45,7 +45,11 @@ pub fn learn_number(alloc: Global, families: &mut Families, number: u32) -> Resu
 }
 
 /// Makes the families of a batch known. Takes memory.
-pub fn learn_others(alloc: Global, families: &mut Families, batch: &[Operation]) -> Result<(), Memory>
+pub fn learn_others(
+    alloc: Global,
+    families: &mut Families,
+    batch: &[Operation],
+) -> Result<(), Memory>
     ensures same { (f : ℕ) → family_at families.new f ≡ family_at families.old f }
     ensures known { OnOk result (AreKnown families.new batch.now) }
 {
