@@ -1,0 +1,7 @@
+//! The live runs of a store, judged: the structure of each file, and whether runs of a level overlap.
+#![tactic(auto)]
+
+mod ends;
+mod opening;
+mod order;
+mod overlaps;
