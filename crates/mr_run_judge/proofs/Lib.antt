@@ -1,3 +1,4 @@
+pub mod Meetings
 pub mod OneOrder
 pub mod Sizes
 pub mod Stepping

@@ -32,3 +32,6 @@ JudgeStops judged old new Memory = Unit {0}
 JudgeStops judged old new Disk = HasRisen old.faults new.faults
 JudgeStops judged old new (Full what at limit) = ⊥
 JudgeStops judged old new (Damaged file at) = Tells old → judged (seen old) ≡ Err (file, at)
+
+abbrev pub no_ends : Ends
+no_ends = record { run = no_run; lowest = []; highest = [] }

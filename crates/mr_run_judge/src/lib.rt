@@ -2,6 +2,7 @@
 #![tactic(auto)]
 
 mod ends;
+mod listing;
 mod opening;
 mod order;
 mod overlaps;
