@@ -1,3 +1,4 @@
+pub mod Listed
 pub mod Meetings
 pub mod OneOrder
 pub mod Sizes
