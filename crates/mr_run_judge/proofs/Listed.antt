@@ -4,6 +4,7 @@ use Rattle.std.specs.Prelude.{◌||◌, ◌&&◌, ◌==◌, suc, zero, cond, map
 use Rattle.std.specs.List.{AllByRecursion}
 use Rattle.std.specs.declared.cmp.Ordering.{Ordering}
 use Rattle.std.specs.Ordering.{is_gt}
+use Rattle.std.proofs.lemmas.Bool.{eqb-true, eq-eqb}
 use lib.ListN.{get_or}
 use Rattle.mr_iter.specs.Versions.{place_in, in_order}
 use Rattle.mr_manifest.specs.declared.live.LiveRun.{LiveRun}
@@ -14,8 +15,17 @@ both : (x y : Bool) → (x && y) ≡ true → (x ≡ true) × (y ≡ true)
 both true y h = (refl, h)
 both false y h = cc
 
-made : (a b : LiveRun) → a.file ≡ b.file → a.family ≡ b.family → a.level ≡ b.level → a.length ≡ b.length → a.entries ≡ b.entries → a ≡ b
-made a b file family level length entries = cc
+abbrev built : ℕ → ℕ → ℕ → ℕ → ℕ → LiveRun
+built file family level size entries = record { family = family; level = level; file = file; length = size; entries = entries }
+
+made : (f f2 m m2 l l2 s s2 n n2 : ℕ) → f ≡ f2 → m ≡ m2 → l ≡ l2 → s ≡ s2 → n ≡ n2 → built f m l s n ≡ built f2 m2 l2 s2 n2
+made f f2 m m2 l l2 s s2 n n2 ef em el es en = ap (λ x. built x m l s n) ef ∙ ap (λ x. built f2 x l s n) em ∙ ap (λ x. built f2 m2 x s n) el ∙ ap (λ x. built f2 m2 l2 x n) es ∙ ap (λ x. built f2 m2 l2 s2 x) en
+
+equal : (m n : ℕ) → (m == n) ≡ true → m ≡ n
+equal m n h = eqb-true m n h
+
+itself-number : (n : ℕ) → (n == n) ≡ true
+itself-number n = eq-eqb n n refl
 
 pub same-run : (a b : LiveRun) → is_run a b ≡ true → a ≡ b
 same-run a b h =
@@ -23,7 +33,7 @@ same-run a b h =
     let two = both (a.family == b.family) _ one.1 in
     let three = both (a.level == b.level) _ two.1 in
     let four = both (a.length == b.length) _ three.1 in
-    made a b (omega (arith, one.0)) (omega (arith, two.0)) (omega (arith, three.0)) (omega (arith, four.0)) (omega (arith, four.1))
+    made a.file b.file a.family b.family a.level b.level a.length b.length a.entries b.entries (equal a.file b.file one.0) (equal a.family b.family two.0) (equal a.level b.level three.0) (equal a.length b.length four.0) (equal a.entries b.entries four.1)
 
 pub each-get : {X : Type 0} (P : X → Type 0) (xs : List X) (i : ℕ) (d : X) → i < length xs → AllByRecursion P xs → P (get_or xs i d)
 each-get P [] i d lt all = absurd (omega arith)
@@ -39,7 +49,7 @@ pub each-behind : {X : Type 0} (P : X → Type 0) (xs : List X) (i : ℕ) → i 
 each-behind P xs i lt all = let e : suc i ≡ i + 1 = omega arith in subst (λ n. AllByRecursion P (drop n xs)) e (each-suc P xs i lt all)
 
 itself : (a : LiveRun) → is_run a a ≡ true
-itself a = let e : (n : ℕ) → (n == n) ≡ true = (λ n. omega arith) in rw (e a.file, e a.family, e a.level, e a.length, e a.entries)
+itself a = let e = itself-number in rw (e a.file, e a.family, e a.level, e a.length, e a.entries)
 
 or-right : (x y : Bool) → y ≡ true → (x || y) ≡ true
 or-right true y h = refl

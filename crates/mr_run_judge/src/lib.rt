@@ -2,7 +2,10 @@
 #![tactic(auto)]
 
 mod ends;
+mod judge;
 mod listing;
 mod opening;
 mod order;
 mod overlaps;
+
+pub use judge::overlapping;
