@@ -35,6 +35,11 @@ same-run a b h =
     let four = both (a.length == b.length) _ three.1 in
     made a.file b.file a.family b.family a.level b.level a.length b.length a.entries b.entries (equal a.file b.file one.0) (equal a.family b.family two.0) (equal a.level b.level three.0) (equal a.length b.length four.0) (equal a.entries b.entries four.1)
 
+pub same-get : {X : Type 0} (xs : List X) (i : ℕ) (d f : X) → i < length xs → get_or xs i d ≡ get_or xs i f
+same-get [] i d f lt = absurd (omega arith)
+same-get (x ∷ xs) zero d f lt = refl
+same-get (x ∷ xs) (suc i) d f lt = same-get xs i d f (omega arith)
+
 pub each-get : {X : Type 0} (P : X → Type 0) (xs : List X) (i : ℕ) (d : X) → i < length xs → AllByRecursion P xs → P (get_or xs i d)
 each-get P [] i d lt all = absurd (omega arith)
 each-get P (x ∷ xs) zero d lt all = all.0
