@@ -7,5 +7,6 @@ mod listing;
 mod opening;
 mod order;
 mod overlaps;
+mod place;
 
 pub use judge::overlapping;
