@@ -3,6 +3,7 @@
 
 mod ends;
 mod judge;
+mod judge_runs;
 mod listing;
 mod opening;
 mod order;
