@@ -3,11 +3,11 @@
 
 mod ends;
 mod judge;
-mod judge_runs;
 mod listing;
 mod opening;
 mod order;
+mod overlapping_runs;
 mod overlaps;
 mod place;
 
-pub use judge::overlapping;
+pub use judge::judge_runs;

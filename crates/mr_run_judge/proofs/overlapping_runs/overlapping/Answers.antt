@@ -8,7 +8,7 @@ use Rattle.mr_run_judge.specs.Judged.{HasEnds}
 use Rattle.mr_run_judge.specs.Meeting.{first_meeting, is_listed, runs_of_ends}
 use Rattle.mr_run_judge.proofs.Listed.{opened-listed}
 use Rattle.mr_run_judge.proofs.Meetings.{first-of-all}
-use Rattle.mr_run_judge.proofs.judge.overlapping.Goals as goal
+use Rattle.mr_run_judge.proofs.overlapping_runs.overlapping.Goals as goal
 
 pub in_list_order-requires : goal.in_list_order-requires
 in_list_order-requires g c = subst (λ (es : List Ends). AllByRecursion (λ (r : LiveRun). is_listed r (runs_of_ends es) ≡ true) c.args.runs.now) (sym c.as_slice.ensures.value)
