@@ -1,5 +1,5 @@
 -- A stop of a later call that finds no damage.
-use Rattle.std.proofs.Common.{◌≡◌, ◌≤◌, ℕ, arith, Ok, Err, Result}
+use Rattle.std.proofs.Common.{◌≡◌, ℕ, arith, Ok, Err, Result}
 use Rattle.mr_base.specs.Disk.{State, Image}
 use Rattle.mr_base.specs.Calls.{Rises}
 use Rattle.mr_base.specs.declared.stop.Stop.{Stop}
@@ -8,7 +8,7 @@ use Rattle.mr_base.proofs.Counting.{risen_within, rises_tells}
 use Rattle.mr_stored.specs.Said.{Place}
 use Rattle.mr_run_judge.specs.Judged.{JudgeStops}
 
-none : Result (Unit {0}) Place
+abbrev none : Result (Unit {0}) Place
 none = Ok tt
 
 apart : (place : Place) → none ≡ Err place → ⊥

@@ -1,9 +1,8 @@
 -- What meets by its ends overlaps by its file.
-use Rattle.std.proofs.Common.{◌≡◌, ℕ, Bool, true, false, List, [], ◌∷◌, ◌++◌, refl, sym, ◌∙◌, ap, map, Some, None, Option}
+use Rattle.std.proofs.Common.{◌≡◌, Bool, true, false, List, [], ◌∷◌, ◌++◌, refl, ◌∙◌, ap, map, Some}
 use Rattle.std.specs.Prelude.{◌||◌, if◌then◌else◌}
 use Rattle.std.specs.List.{AllByRecursion}
 use Rattle.mr_base.specs.Disk.{Image}
-use Rattle.mr_iter.specs.Order.{each-append}
 use Rattle.mr_manifest.specs.declared.live.LiveRun.{LiveRun}
 use Rattle.mr_stored.specs.Offences.{overlap, overlaps_one, first_overlap}
 use Rattle.mr_run_judge.specs.declared.ends.Ends.{Ends}

@@ -1,5 +1,5 @@
 -- One record more of the manifest is read.
-use Rattle.std.proofs.Common.{◌≡◌, ◌+◌, ℕ, Bool, true, false, List, [], ◌∷◌, refl, sym, ◌∙◌, ap, subst, arith, drop, length, Ok, Err, Result}
+use Rattle.std.proofs.Common.{◌≡◌, ◌+◌, ℕ, Bool, true, false, List, ◌∷◌, refl, sym, ◌∙◌, ap, arith, drop, length, Ok, Err, Result}
 use Rattle.std.specs.Prelude.{if◌then◌else◌}
 use Rattle.mr_gate.specs.Log.{span, is_bad_end, records_from, end_from, is_damaged_from}
 use Rattle.mr_manifest.specs.declared.edit.Edit.{Edit}

@@ -1,5 +1,5 @@
 -- A list in order is as long, and its files are.
-use Rattle.std.proofs.Common.{◌≡◌, ◌+◌, List, [], ◌∷◌, refl, ◌∙◌, ap, length, Bool, true, false, cond, arith}
+use Rattle.std.proofs.Common.{◌≡◌, ◌+◌, List, [], ◌∷◌, refl, length, true, false, cond, arith}
 use Rattle.std.specs.declared.cmp.Ordering.{Ordering}
 use Rattle.std.specs.Ordering.{is_gt}
 use Rattle.mr_iter.specs.Versions.{place_in, in_order}

@@ -5,7 +5,7 @@ use Rattle.std.specs.List.{AllByRecursion}
 use Rattle.std.proofs.lemmas.List.{take_more}
 use Rattle.mr_iter.specs.Order.{each-append}
 use lib.ListN.{get_or}
-use Rattle.mr_base.specs.Disk.{State, Image, Tells, seen, file_of}
+use Rattle.mr_base.specs.Disk.{State, Image, Tells, seen}
 use Rattle.mr_base.specs.Calls.{Same, Counts}
 use Rattle.mr_base.specs.declared.stop.Stop.{Stop}
 use Rattle.mr_base.specs.declared.stop.Stop.TheVariants.{Memory, Disk, Full, Damaged}
@@ -14,7 +14,7 @@ use Rattle.mr_base.proofs.Moments.{same_file}
 use Rattle.mr_run_file.specs.Reading.{recorded_in}
 use Rattle.mr_run_open.specs.Runs.{OpenStops}
 use Rattle.mr_manifest.specs.declared.live.LiveRun.{LiveRun}
-use Rattle.mr_stored.specs.Said.{Place, in_file, ◌>>=◌}
+use Rattle.mr_stored.specs.Said.{in_file, ◌>>=◌}
 use Rattle.mr_stored.specs.Lists.{index_or_none}
 use Rattle.mr_stored.specs.Offences.{structures, lowest, highest}
 use Rattle.mr_run_judge.specs.Judged.{lengths, IsSound, HasEnds, JudgeStops}

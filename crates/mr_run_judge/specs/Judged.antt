@@ -3,7 +3,7 @@ use Rattle.std.specs.Prelude.{◌≡◌, ℕ, ◌+◌, List, [], ◌∷◌, Resu
 use Rattle.mr_base.specs.Disk.{Image, State, Tells, HasRisen, seen}
 use Rattle.mr_base.specs.declared.stop.Stop.{Stop}
 use Rattle.mr_base.specs.declared.stop.Stop.TheVariants.{Memory, Disk, Full, Damaged}
-use Rattle.mr_run_file.specs.Reading.{Index, recorded_in}
+use Rattle.mr_run_file.specs.Reading.{recorded_in}
 use Rattle.mr_manifest.specs.declared.live.LiveRun.{LiveRun}
 use Rattle.mr_stored.specs.Said.{Place}
 use Rattle.mr_stored.specs.Lists.{index_in}

@@ -38,12 +38,7 @@ pub fn ends_of(alloc: Global, run: LiveRun, opened: &Run) -> Result<Ends, Memory
     }
 }
 
-fn ends_between(
-    alloc: Global,
-    run: LiveRun,
-    lowest: &[u8],
-    highest: &[u8],
-) -> Result<Ends, Memory>
+fn ends_between(alloc: Global, run: LiveRun, lowest: &[u8], highest: &[u8]) -> Result<Ends, Memory>
     ensures run { IfOk result (λ e. e.run ≡ run) }
     ensures lowest { IfOk result (λ e. e.lowest ≡ lowest.now) }
     ensures highest { IfOk result (λ e. e.highest ≡ highest.now) }

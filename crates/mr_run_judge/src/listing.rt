@@ -47,11 +47,7 @@ fn copy_of(alloc: Global, ends: &Ends) -> Result<Ends, Memory>
 }
 
 /// A copy of each run's ends, in the order of the runs. Takes memory.
-pub fn in_list_order(
-    alloc: Global,
-    opened: &[Ends],
-    runs: &[LiveRun],
-) -> Result<Vec<Ends>, Memory>
+pub fn in_list_order(alloc: Global, opened: &[Ends], runs: &[LiveRun]) -> Result<Vec<Ends>, Memory>
     requires { AllByRecursion (λ r. is_listed r (runs_of_ends opened.now) ≡ true) runs.now }
     ensures runs { IfOk result (λ es. map (λ e. e.run) es.items ≡ runs.now) }
     ensures ends { (image : Image) → AllByRecursion (HasEnds image) opened.now → IfOk result (λ es. AllByRecursion (HasEnds image) es.items) }

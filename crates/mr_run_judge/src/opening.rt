@@ -40,11 +40,7 @@ fn open_run<D: Disk>(alloc: Global, disk: &mut D, run: LiveRun) -> Result<Ends, 
 }
 
 /// The ends of these runs, which are opened one after the other, or the first offence of their structures. Takes memory.
-pub fn open_each<D: Disk>(
-    alloc: Global,
-    disk: &mut D,
-    runs: &[LiveRun],
-) -> Result<Vec<Ends>, Stop>
+pub fn open_each<D: Disk>(alloc: Global, disk: &mut D, runs: &[LiveRun]) -> Result<Vec<Ends>, Stop>
     ensures rises { Rises 0 (D.disk disk.old) (D.disk disk.new) }
     ensures counts { OnOk result (Counts (2 * length runs.now) (lengths runs.now) 0 (D.disk disk.old) (D.disk disk.new)) }
     ensures same { Tells (D.disk disk.old) → Same (D.disk disk.old) (D.disk disk.new) }
@@ -69,11 +65,7 @@ pub fn open_each<D: Disk>(
 
 /// The ends of all runs, which are opened in the order in which they are judged, or the first offence of their structures. Takes
 /// memory.
-pub fn open_all<D: Disk>(
-    alloc: Global,
-    disk: &mut D,
-    runs: &[LiveRun],
-) -> Result<Vec<Ends>, Stop>
+pub fn open_all<D: Disk>(alloc: Global, disk: &mut D, runs: &[LiveRun]) -> Result<Vec<Ends>, Stop>
     ensures rises { Rises 0 (D.disk disk.old) (D.disk disk.new) }
     ensures counts { OnOk result (Counts (2 * length runs.now) (lengths runs.now) 0 (D.disk disk.old) (D.disk disk.new)) }
     ensures same { Tells (D.disk disk.old) → Same (D.disk disk.old) (D.disk disk.new) }

@@ -1,6 +1,5 @@
-use Rattle.std.proofs.Common.{rules, Ok}
+use Rattle.std.proofs.Common.{Ok}
 use Rattle.mr_stored.specs.Offences.{runs_judged}
-use Rattle.mr_base.specs.Calls.{Rises}
 use Rattle.mr_run_judge.specs.Judged.{JudgeStops}
 use Rattle.mr_run_judge.proofs.Later.{later_stop}
 use Rattle.mr_run_judge.proofs.judge.judged.Goals as goal

@@ -1,4 +1,4 @@
-use Rattle.std.proofs.Common.{rules, ◌≡◌, ◌*◌, length, OnOk, List, ap, ◌∙◌, subst}
+use Rattle.std.proofs.Common.{◌≡◌, ◌*◌, length, OnOk, List, ap, ◌∙◌, subst}
 use Rattle.mr_base.specs.Calls.{Counts}
 use Rattle.mr_iter.specs.Versions.{in_order}
 use Rattle.mr_manifest.specs.declared.live.LiveRun.{LiveRun}

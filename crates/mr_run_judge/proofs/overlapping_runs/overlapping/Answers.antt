@@ -1,4 +1,4 @@
-use Rattle.std.proofs.Common.{◌≡◌, ◌∙◌, [], List, map, sym, subst, ap, true}
+use Rattle.std.proofs.Common.{◌≡◌, ◌∙◌, [], List, sym, subst, ap, true}
 use Rattle.std.specs.List.{AllByRecursion}
 use Rattle.mr_base.specs.Disk.{seen}
 use Rattle.mr_manifest.specs.declared.live.LiveRun.{LiveRun}

@@ -1,7 +1,5 @@
-use Rattle.std.proofs.Common.{rules, ◌+◌, ◌∷◌, length, Ok, ◌≡◌, ◌∙◌, ap, sym, subst}
+use Rattle.std.proofs.Common.{rules, ◌+◌, ◌∷◌, length, Ok, ◌≡◌, ◌∙◌, ap}
 use Rattle.mr_base.specs.Disk.{file_of}
-use Rattle.mr_base.proofs.Counting.{rises_call, rises_tells}
-use Rattle.mr_base.proofs.Moments.{same_then}
 use Rattle.mr_gate.specs.Log.{records_from}
 use Rattle.mr_manifest.specs.Edits.{read_edits}
 use Rattle.mr_run_judge.specs.Adding.{added_behind, read_from}

@@ -1,7 +1,6 @@
 use Rattle.std.proofs.Common.{◌≡◌, ◌≤◌, ◌-◌}
 use Rattle.mr_base.specs.Disk.{Tells, file_of}
 use Rattle.mr_base.specs.Calls.{Same, Rises}
-use Rattle.mr_gate.specs.Log.{is_damaged_from}
 use Rattle.mr_gate.specs.Walking.{Walks}
 use Rattle.mr_manifest.specs.Manifest.{manifest_of}
 use Rattle.mr_stored.specs.Offences.{added_in}
