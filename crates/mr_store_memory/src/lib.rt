@@ -4,4 +4,5 @@
 mod naming;
 mod readying;
 
+pub use naming::{direction_of, family_in};
 pub use readying::make_ready;

@@ -2,7 +2,11 @@
 #![tactic(auto)]
 
 mod adding;
+mod name;
 mod opening;
+mod reading;
 mod system;
 
+pub use name::Name;
+pub use reading::read_names;
 pub use system::system_family;
