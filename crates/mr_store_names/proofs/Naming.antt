@@ -1,5 +1,5 @@
 -- What the versions of a view name, and what family 0 names.
-use Rattle.std.proofs.Common.{◌≡◌, ◌⊎◌, ◌||◌, ℕ, ◌≤◌, ◌<◌, ◌^◌, ◌++◌, Bool, true, false, cond, if◌then◌else◌, nat_lt, is_some, unwrap_or, List, [], ◌∷◌, filter, Option, Some, None, IfSome, refl, sym, ◌∙◌, ap, subst, inl, inr, arith}
+use Rattle.std.proofs.Common.{◌≡◌, ◌⊎◌, ◌||◌, ℕ, ◌≤◌, ◌<◌, ◌^◌, ◌++◌, Bool, true, false, cond, if◌then◌else◌, nat_lt, is_some, unwrap_or, List, [], ◌∷◌, filter, Option, Some, None, IfSome, Result, Ok, Err, IfOk, refl, sym, ◌∙◌, ap, subst, inl, inr, arith}
 use Rattle.std.specs.List.{AllByRecursion}
 use Rattle.std.proofs.lemmas.Bool.{cases_Bool}
 use Rattle.std.proofs.lemmas.Bool.Decides.{nat_tests}
@@ -15,6 +15,11 @@ use Rattle.mr_iter.specs.Snapshots.{at_snapshot}
 use Rattle.mr_iter.proofs.Newer.{same_bytes, eq_of}
 use Rattle.mr_store_memory.proofs.Keys.{same_number}
 use Rattle.mr_stored.specs.Names.{family_key, record_of, is_name, is_named, direction_in, record_direction, put_direction, direction_of_name}
+use Rattle.mr_base.specs.Disk.{Image}
+use Rattle.mr_iter.specs.Cursors.{CursorState}
+use Rattle.mr_family.specs.Family.{FamilyState, versions, direction}
+use Rattle.mr_family.specs.Parts.{IsViewAt}
+use Rattle.mr_store_names.proofs.Fronts.{family_in_order}
 use Rattle.mr_store_names.specs.declared.name.Name.{Name}
 use Rattle.mr_store_names.specs.Named.{IsNameIn, Lists, AreNames, IsNameOf, IsNoNameOf, Adds, IsListed, Told}
 
@@ -151,3 +156,15 @@ name_is (Some v) key value n old far small is direction key_is value_is put_is =
     by : (put : Option (List ℕ)) → value ≡ unwrap_or put [] → true ≡ is_some put → direction_of_name value ≡ put_direction put
     by None e is = cc
     by (Some name) e is = ap direction_of_name e
+
+-- ---- by a cursor over what stands in it
+
+abbrev HasNewest : Type 0
+HasNewest = (d : Direction) (number : ℕ) (key : List ℕ) (vs : List Version) → IsInOrder (version_cmp d) vs → filter (is_of key) (at_snapshot number vs) ≡ shown_one (newest number key vs)
+
+pub names_by_view : HasNewest → (f : FamilyState) (image : Image) (s : CursorState) → IsViewAt (2 ^ 63) f s → (names : List Name) → Told (s.versions image) names → AreNames (versions f image) names
+names_by_view law f image s view names told = are_names (versions f image) (λ key. law (direction f) (2 ^ 63) key (versions f image) (family_in_order f image)) names (subst (λ (vs : List Version). Told vs names) (view.versions_are image) told)
+
+pub named_ok : {X E : Type 0} (r : Result X E) (items : X → List Name) → HasNewest → (f : FamilyState) (image : Image) (s : CursorState) → IsViewAt (2 ^ 63) f s → IfOk r (λ x. Told (s.versions image) (items x)) → IfOk r (λ x. AreNames (versions f image) (items x))
+named_ok (Ok x) items law f image s view told = names_by_view law f image s view (items x) told
+named_ok (Err e) items law f image s view told = tt

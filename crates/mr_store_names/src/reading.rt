@@ -74,11 +74,7 @@ fn read_from_front<D: Disk, C: Cursor<D>>(
 }
 
 /// The families, from 2 on, that family 0 names. All its blocks are read and judged. Takes memory.
-pub fn read_names<D: Disk>(
-    alloc: Global,
-    disk: &mut D,
-    system: &Family,
-) -> Result<Vec<Name>, Stop>
+pub fn read_names<D: Disk>(alloc: Global, disk: &mut D, system: &Family) -> Result<Vec<Name>, Stop>
     ensures rises { Rises 0 (D.disk disk.old) (D.disk disk.new) }
     ensures same { Tells (D.disk disk.old) → Same (D.disk disk.old) (D.disk disk.new) }
     ensures named { Tells (D.disk disk.old) → IsWhole system.now (seen (D.disk disk.old)) → direction_of system.now ≡ Forward → IfOk result (λ names. AreNames (versions system.now (seen (D.disk disk.old))) names.items) }

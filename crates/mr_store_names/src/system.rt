@@ -5,6 +5,7 @@ ghost use Rattle.mr_base.specs.Disk.{Tells, HasRisen, seen};
 ghost use Rattle.mr_base.specs.Calls.{Rises, Same};
 ghost use Rattle.mr_base.specs.declared.stop.Direction.TheVariants.{Forward};
 ghost use Rattle.mr_base.specs.declared.stop.Stop.TheVariants.{Disk as DiskStop};
+ghost use Rattle.mr_family.specs.Family.{direction as direction_of};
 ghost use Rattle.mr_stored.specs.Lists.{levels_of, with_batches};
 ghost use Rattle.mr_store_names.specs.Stopping.{SystemStops};
 
@@ -27,6 +28,7 @@ pub fn system_family<D: Disk>(
     ensures levels { Tells (D.disk disk.old) → IfOk result (λ f. f.levels ≡ levels_of Forward 0 (seen (D.disk disk.old)) runs.now) }
     ensures memory { IfOk result (λ f. f.memtable.versions ≡ with_batches Forward 0 batches.now []) }
     ensures cached { IfOk result (λ f. f.cached ≡ []) }
+    ensures forward { IfOk result (λ f. direction_of f ≡ Forward) }
     ensures rises { Rises 0 (D.disk disk.old) (D.disk disk.new) }
     ensures same { Tells (D.disk disk.old) → Same (D.disk disk.old) (D.disk disk.new) }
     ensures stops { IfErr result (SystemStops runs.now (D.disk disk.old) (D.disk disk.new)) }

@@ -18,10 +18,10 @@ returns-clause-told g c = λ tells whole forward.
     let x = c.args.cursor.now in
     let y = c.seek.new.self in
     let list : left (g.C.Listed.cursor y) (seen t) ≡ (g.C.Listed.cursor x).versions (seen s) =
-        ap (λ (image : Image). left (g.C.Listed.cursor y) image) e
-        ∙ c.in-Ok.ensures.found tells whole
-        ∙ ap (λ (d : Direction). from_key d [] ((g.C.Listed.cursor x).versions (seen s))) forward
-        ∙ from_front ((g.C.Listed.cursor x).versions (seen s)) in
+    ap (λ (image : Image). left (g.C.Listed.cursor y) image) e
+    ∙ c.in-Ok.ensures.found tells whole
+    ∙ ap (λ (d : Direction). from_key d [] ((g.C.Listed.cursor x).versions (seen s))) forward
+    ∙ from_front ((g.C.Listed.cursor x).versions (seen s)) in
     subst (λ (vs : List Version). IfOk c.read_all.result (λ names. Told vs names.items)) list
     (c.read_all.ensures.told (rises_tells 0 s t (rises_of _ _ 0 s t c.seek.ensures.counts) tells) (subst (g.C.Listed.whole y) (sym e) (c.seek.ensures.whole tells whole)))
 
