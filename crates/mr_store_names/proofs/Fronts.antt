@@ -1,8 +1,8 @@
 -- A list from its first key on, and stops behind a call that changed nothing.
-use Rattle.std.proofs.Common.{◌≡◌, ℕ, false, not, List, [], ◌∷◌, filter, Result, Ok, Err, IfErr, IfOk, refl, sym, ◌∙◌, ap, subst, arith}
+use Rattle.std.proofs.Common.{◌≡◌, ℕ, false, List, [], ◌∷◌, Result, Ok, Err, IfErr, IfOk, refl, ◌∙◌, ap, arith}
 use Rattle.std.specs.Cmp.Lexicographic.{slice_cmp}
 use Rattle.std.specs.Ordering.{nat_cmp, is_lt}
-use Rattle.mr_base.specs.Disk.{State, Tells, Image, seen}
+use Rattle.mr_base.specs.Disk.{State, Tells, Image}
 use Rattle.mr_base.specs.Calls.{Rises, Same}
 use Rattle.mr_base.specs.declared.stop.Stop.{Stop}
 use Rattle.mr_base.specs.declared.stop.Stop.TheVariants.{Memory, Disk, Full, Damaged}

@@ -1,5 +1,5 @@
 -- What the versions of a view name, and what family 0 names.
-use Rattle.std.proofs.Common.{◌≡◌, ◌⊎◌, ◌||◌, ℕ, ◌≤◌, ◌<◌, ◌^◌, ◌++◌, Bool, true, false, cond, if◌then◌else◌, nat_lt, is_some, unwrap_or, List, [], ◌∷◌, filter, Option, Some, None, IfSome, Result, Ok, Err, IfOk, refl, sym, ◌∙◌, ap, subst, inl, inr, arith}
+use Rattle.std.proofs.Common.{◌≡◌, ◌||◌, ℕ, ◌≤◌, ◌<◌, ◌^◌, ◌++◌, Bool, true, false, cond, if◌then◌else◌, nat_lt, is_some, unwrap_or, List, [], ◌∷◌, filter, Option, Some, None, IfSome, Result, Ok, Err, IfOk, refl, sym, ◌∙◌, ap, subst, inl, inr, arith}
 use Rattle.std.specs.List.{AllByRecursion}
 use Rattle.std.proofs.lemmas.Bool.{cases_Bool}
 use Rattle.std.proofs.lemmas.Bool.Decides.{nat_tests}
@@ -9,19 +9,20 @@ use Rattle.std.specs.Ordering.{nat_cmp, is_eq}
 use Rattle.mr_base.specs.declared.stop.Direction.{Direction}
 use Rattle.mr_base.specs.declared.stop.Direction.TheVariants.{Forward}
 use Rattle.mr_iter.specs.Versions.{Version, version_cmp, IsInOrder}
+use Rattle.mr_iter.specs.Order.{each-append}
 use Rattle.mr_iter.specs.Children.{AnyOf}
 use Rattle.mr_iter.specs.Newest.{newest, is_of, shown_one}
 use Rattle.mr_iter.specs.Snapshots.{at_snapshot}
 use Rattle.mr_iter.proofs.Newer.{same_bytes, eq_of}
 use Rattle.mr_store_memory.proofs.Keys.{same_number}
-use Rattle.mr_stored.specs.Names.{family_key, record_of, is_name, is_named, direction_in, record_direction, put_direction, direction_of_name}
+use Rattle.mr_stored.specs.Names.{family_key, record_of, is_name, record_direction, put_direction, direction_of_name}
 use Rattle.mr_base.specs.Disk.{Image}
 use Rattle.mr_iter.specs.Cursors.{CursorState}
 use Rattle.mr_family.specs.Family.{FamilyState, versions, direction}
 use Rattle.mr_family.specs.Parts.{IsViewAt}
 use Rattle.mr_store_names.proofs.Fronts.{family_in_order}
 use Rattle.mr_store_names.specs.declared.name.Name.{Name}
-use Rattle.mr_store_names.specs.Named.{IsNameIn, Lists, AreNames, IsNameOf, IsNoNameOf, Adds, IsListed, Told}
+use Rattle.mr_store_names.specs.Named.{IsNameIn, AreNames, IsNameOf, IsNoNameOf, Adds, IsListed, Told}
 
 -- ---- one version more
 
@@ -38,10 +39,6 @@ each_map : {X : Type 0} (P Q : X → Type 0) (xs : List X) → ((x : X) → P x 
 each_map P Q [] f all = tt
 each_map P Q (x ∷ xs) f all = (f x all.0, each_map P Q xs f all.1)
 
-each_join : {X : Type 0} (P : X → Type 0) (xs ys : List X) → AllByRecursion P xs → AllByRecursion P ys → AllByRecursion P (xs ++ ys)
-each_join P [] ys all more = more
-each_join P (x ∷ xs) ys all more = (all.0, each_join P xs ys all.1 more)
-
 abbrev From : List Version → Name → Type 0
 From vs n = AnyOf (λ (v : Version). IsNameOf v n) vs
 
@@ -49,13 +46,13 @@ module _ (done : List Version) (v : Version) (old new : List Name) (told : Told 
   told_none : new ≡ old → IsNoNameOf v → Told (done ++ v ∷ []) new
   told_none same none = subst (Told (done ++ v ∷ [])) (sym same) (record {
     each = each_map (From done) (From (done ++ v ∷ [])) old (λ n from. any_front (λ (w : Version). IsNameOf w n) done (v ∷ []) from) told.each;
-    listed = each_join (IsListed old) done (v ∷ []) told.listed ((λ f far small is put. absurd (none f far small is put)), tt);
+    listed = each-append (IsListed old) done (v ∷ []) told.listed ((λ f far small is put. absurd (none f far small is put)), tt);
   })
 
   told_one : (n : Name) → new ≡ old ++ n ∷ [] → IsNameOf v n → Told (done ++ v ∷ []) new
   told_one n more is = subst (Told (done ++ v ∷ [])) (sym more) (record {
-    each = each_join (From (done ++ v ∷ [])) old (n ∷ []) (each_map (From done) (From (done ++ v ∷ [])) old (λ m from. any_front (λ (w : Version). IsNameOf w m) done (v ∷ []) from) told.each) (any_behind (λ (w : Version). IsNameOf w n) done (v ∷ []) (inl is), tt);
-    listed = each_join (IsListed (old ++ n ∷ [])) done (v ∷ []) (each_map (IsListed old) (IsListed (old ++ n ∷ [])) done (λ w listed f far small key put. any_front (λ (m : Name). m.family ≡ f) old (n ∷ []) (listed f far small key put)) told.listed) (own, tt);
+    each = each-append (From (done ++ v ∷ [])) old (n ∷ []) (each_map (From done) (From (done ++ v ∷ [])) old (λ m from. any_front (λ (w : Version). IsNameOf w m) done (v ∷ []) from) told.each) (any_behind (λ (w : Version). IsNameOf w n) done (v ∷ []) (inl is), tt);
+    listed = each-append (IsListed (old ++ n ∷ [])) done (v ∷ []) (each_map (IsListed old) (IsListed (old ++ n ∷ [])) done (λ w listed f far small key put. any_front (λ (m : Name). m.family ≡ f) old (n ∷ []) (listed f far small key put)) told.listed) (own, tt);
   })
     where
       own : IsListed (old ++ n ∷ []) v

@@ -1,5 +1,6 @@
 -- A reading of names so far: x is its cursor at the start, y the one now, z the one after the next step.
 use Rattle.std.proofs.Common.{◌≡◌, ℕ, Bool, true, false, List, [], ◌∷◌, ◌++◌, append_assoc, Option, Some, None, is_none, IfSome, IsTrue, refl, sym, ◌∙◌, ap, subst}
+use Rattle.std.proofs.lemmas.List.{append-nil}
 use Rattle.mr_base.specs.Disk.{State, Tells, Image, seen}
 use Rattle.mr_base.specs.declared.stop.Stop.{Stop}
 use Rattle.mr_iter.specs.Versions.{Version}
@@ -30,11 +31,7 @@ pub record Done (rest all : List Version) (names : List Name) : Type 0 where
   pub told : Told done names
 
 done_end : (all : List Version) (names : List Name) → Done [] all names → Told all names
-done_end all names so_far = subst (λ (vs : List Version). Told vs names) (sym (so_far.parts ∙ no_more so_far.done)) so_far.told
-  where
-    no_more : (ws : List Version) → ws ++ [] ≡ ws
-    no_more [] = refl
-    no_more (w ∷ ws) = ap (λ (us : List Version). w ∷ us) (no_more ws)
+done_end all names so_far = subst (λ (vs : List Version). Told vs names) (sym (so_far.parts ∙ append-nil so_far.done)) so_far.told
 
 done_more : (v : Version) (rest all : List Version) (old new : List Name) → Done (v ∷ rest) all old → Adds v old new → Done rest all new
 done_more v rest all old new so_far adds = record {

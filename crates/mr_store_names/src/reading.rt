@@ -73,7 +73,7 @@ fn read_from_front<D: Disk, C: Cursor<D>>(
     read_all::<D, C>(alloc, disk, cursor)
 }
 
-/// The families, from 2 on, that family 0 names. All its blocks are read and judged. Takes memory.
+/// The families, from 2 on, that family 0 names; its keys are in forward order. All its blocks are read and judged. Takes memory.
 pub fn read_names<D: Disk>(alloc: Global, disk: &mut D, system: &Family) -> Result<Vec<Name>, Stop>
     ensures rises { Rises 0 (D.disk disk.old) (D.disk disk.new) }
     ensures same { Tells (D.disk disk.old) → Same (D.disk disk.old) (D.disk disk.new) }
