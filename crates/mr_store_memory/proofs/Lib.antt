@@ -1,5 +1,5 @@
 pub mod Turning
 pub mod Holding
-mod Keys
+pub mod Keys
 mod Named
 mod Others

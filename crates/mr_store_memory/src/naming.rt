@@ -20,8 +20,8 @@ fn number_in(key: &[u8]) -> Option<u32>
     Some(BigEndian::read_u32(&key[4..]))
 }
 
-/// The family whose record has this key. The first two have none.
-fn family_in(key: &[u8]) -> Option<u32>
+/// The family whose record has this key, at least 2. The first two have none.
+pub fn family_in(key: &[u8]) -> Option<u32>
     ensures found { IfSome result (λ f. IsKeyOf f key.now) }
     ensures none { IfNone result (IsNoKey key.now) }
 {
@@ -33,7 +33,7 @@ fn family_in(key: &[u8]) -> Option<u32>
 }
 
 /// The direction of a family of this name.
-fn direction_of(name: &[u8]) -> Direction
+pub fn direction_of(name: &[u8]) -> Direction
     ensures { result ≡ direction_of_name name.now }
 {
     if name.starts_with(b"rev:") {
