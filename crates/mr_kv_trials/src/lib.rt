@@ -12,4 +12,6 @@ mod rows;
 #[cfg(test)]
 mod seen;
 #[cfg(test)]
+mod short;
+#[cfg(test)]
 mod untold;
