@@ -24,6 +24,11 @@ impl Untold {
         }
     }
 
+    /// The host below.
+    pub fn into_host(self) -> MemHost {
+        self.host
+    }
+
     /// The place, or the file's end where that comes first.
     fn within(&self, file: u64, at: u64) -> u64
         ensures { result ≤ length (file_of (disk_state self.now.host) file).bytes }
