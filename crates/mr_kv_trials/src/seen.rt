@@ -2,7 +2,7 @@
 ghost use Rattle.mr_kv_trials.specs.Silent.{IsReadyOver};
 
 use crate::untold::Untold;
-use mr_base::Stop;
+use mr_base::{Memory, Stop};
 use mr_block::Found;
 use mr_iter::{Cursor, Listed};
 use mr_kv::Kv;
@@ -11,7 +11,16 @@ use std::alloc::Global;
 /// No walk here is longer.
 const LONG: usize = 20;
 
-/// Adds the key and the value that a cursor stands on, each with a `/` behind it, and goes one version on.
+/// Adds a key and a value, each with a `/` behind it.
+fn add_pair(out: &mut Vec<u8>, key: &[u8], value: &[u8]) -> Result<(), Memory> {
+    out.extend_from_slice(key)?;
+    out.extend_from_slice(b"/")?;
+    out.extend_from_slice(value)?;
+    out.extend_from_slice(b"/")?;
+    Ok(())
+}
+
+/// Adds what a cursor stands on, and goes one version on.
 fn pass<C: Cursor<Untold>>(
     disk: &mut Untold,
     cursor: &mut C,
@@ -20,11 +29,22 @@ fn pass<C: Cursor<Untold>>(
     if cursor.at_end() {
         return Ok(());
     }
-    out.extend_from_slice(cursor.key())?;
-    out.extend_from_slice(b"/")?;
-    out.extend_from_slice(cursor.value())?;
-    out.extend_from_slice(b"/")?;
+    add_pair(out, cursor.key(), cursor.value())?;
     cursor.next(disk)
+}
+
+/// Adds what a cursor shows from a key's place on.
+fn walk<C: Cursor<Untold>>(
+    disk: &mut Untold,
+    cursor: &mut C,
+    from: &[u8],
+    out: &mut Vec<u8>,
+) -> Result<(), Stop> {
+    cursor.seek(disk, from)?;
+    for _ in 0..LONG {
+        pass(disk, cursor, out)?;
+    }
+    Ok(())
 }
 
 /// All keys and values of a family at a number from the first version on that isn't before a key.
@@ -38,10 +58,7 @@ pub fn walked(
 ) -> Result<Vec<u8>, Stop> {
     let mut out = Vec::new(alloc);
     let mut cursor = kv.cursor(alloc, family, at)?;
-    cursor.seek(disk, from)?;
-    for _ in 0..LONG {
-        pass(disk, &mut cursor, &mut out)?;
-    }
+    walk(disk, &mut cursor, from, &mut out)?;
     Ok(out)
 }
 
